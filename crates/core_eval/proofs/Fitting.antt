@@ -1,7 +1,7 @@
 -- Clauses of a receive, by whether a message matches their pattern.
 use Rattle.std.proofs.Common.{◌≡◌, ◌∙◌, ◌≤◌, Bool, true, false, List, [], ◌∷◌, ◌++◌, ◌||◌, length, refl, ap, sym, arith}
 use Rattle.std.specs.Prelude.{Option, Some, None, is_some, codes}
-use Rattle.core_tree.specs.Syntax.{ClauseTree, Patterns, Pattern, Tree, clauses_of, patterns_of}
+use Rattle.core_tree.specs.Syntax.{ClauseTree, Pattern, Tree, clauses_of, patterns_of}
 use Rattle.core_tree.specs.Expression as trees
 use Rattle.term_core.specs.Meaning.{Meaning}
 use Rattle.core_semantics.specs.Evaluation.{Outcome, Setting, at_rest, evaluate, holds, is_taken, selects}

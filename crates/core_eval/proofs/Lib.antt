@@ -1,5 +1,6 @@
 pub mod Errors
 pub mod Stops
+pub mod Allowing
 pub mod Running
 pub mod Lookups
 pub mod Selecting

@@ -1,25 +1,24 @@
 -- Stacks that differ in the places of code alone give the same.
-use Rattle.std.proofs.Common.{◌≡◌, ℕ, Bool, true, false, not, List, [], ◌∷◌, ◌++◌, map, Option, Some, None, option_map, if◌then◌else◌, length, refl, sym, ap, ◌∙◌}
-use Rattle.std.proofs.lemmas.List.{length-map}
+use Rattle.std.proofs.Common.{◌≡◌, Bool, true, false, not, List, [], ◌∷◌, ◌++◌, map, if◌then◌else◌, refl, sym, ap, ◌∙◌}
 use Rattle.core_tree.specs.Expression as trees
-use Rattle.core_tree.specs.Sameness.{bare_callee, bare_clause, bare_clauses, bare_mention, bare_tree, bare_trees}
-use Rattle.core_tree.specs.Syntax.{Tree, ClauseTree, Mention, trees_of, clauses_of, ModuleTree}
+use Rattle.core_tree.specs.Sameness.{bare_clause, bare_clauses, bare_tree, bare_trees}
+use Rattle.core_tree.specs.Syntax.{Tree, ClauseTree, trees_of, clauses_of}
 use Rattle.term_core.specs.Meaning.{Meaning}
 use Rattle.term_core.specs.Term.{list_onto}
 use Rattle.core_stack.specs.Holes.{Hole, Wait, Purpose, scope, kept_in, hides, receive_on}
 use Rattle.core_stack.specs.Holes as holes
 use Rattle.core_stack.specs.Purposes as purposes
-use Rattle.core_stack.specs.Matching.{Environment, bound}
+use Rattle.core_stack.specs.Matching.{Environment}
 use Rattle.core_stack.specs.inside.Bare.{bare_hole, bare_holes, bare_purpose}
 use Rattle.core_semantics.specs.Applications.{setting_of}
 use Rattle.core_semantics.specs.Ask.{request_of}
-use Rattle.core_semantics.specs.Asked.{Asked, Answered}
-use Rattle.core_semantics.specs.Evaluation.{Setting, State, Outcome, Yields, before, then_do, one, limited, within, guarded, handled, caught, caught_values, timed, waits_with, received, evaluate, evaluate_all, choose, receive}
+use Rattle.core_semantics.specs.Asked.{Answered}
+use Rattle.core_semantics.specs.Evaluation.{Setting, State, Outcome, before, then_do, one, limited, within, guarded, handled, caught, timed, waits_with, received, evaluate_all, choose, receive}
 use Rattle.core_semantics.proofs.Places.{bound_bare, called_bare, caught_bare, clauses_bare, selects_bare, tree_bare, trees_bare}
 use Rattle.core_eval.specs.Filled.{finish, filled, through, waiting, standing}
 use Rattle.core_eval.specs.Told.{Told}
 use Rattle.core_eval.specs.Told as told
-use Rattle.core_eval.specs.Standing.{Standing, AreOne, after, is_spent, module_in}
+use Rattle.core_eval.specs.Standing.{Standing, AreOne, is_spent, module_in}
 
 -- ---- what is in scope
 

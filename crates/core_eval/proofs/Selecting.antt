@@ -1,5 +1,5 @@
 -- Guards that are judged apart, and the messages that a request takes.
-use Rattle.std.proofs.Common.{◌≡◌, ℕ, Bool, false, List, [], ◌∷◌, ◌++◌, refl, ap, sym, ◌∙◌, arith, IfOk, Result, Ok, Err}
+use Rattle.std.proofs.Common.{◌≡◌, ℕ, Bool, false, List, [], ◌∷◌, ◌++◌, refl, ap, sym, ◌∙◌, IfOk, Result, Ok, Err}
 use Rattle.std.specs.Prelude.{Option, Some, None}
 use Rattle.std.specs.declared.alloc.AllocError.{AllocError}
 use Rattle.std.proofs.lemmas.List.{append-nil}
@@ -19,6 +19,7 @@ use Rattle.core_eval.specs.Filled.{standing, through, waiting}
 use Rattle.core_stack.specs.Holes as holes
 use Rattle.core_stack.specs.Matching.{Environment}
 use Rattle.core_eval.specs.inside.Steps.{gave_true, paused, stands_in}
+use Rattle.core_semantics.proofs.Limits.{within_limit}
 use Rattle.core_eval.proofs.Running.{runs_away}
 use Rattle.core_eval.proofs.Stops.{through-stops}
 
@@ -37,7 +38,7 @@ judged_apart m own stack (pauses.Halt (halts.Raise class reason)) = refl
 judged_apart m own stack (pauses.Halt (halts.Ask kind arguments)) = stopped (setting_of m own) stack (Call kind arguments)
 judged_apart m own stack (pauses.Halt (halts.Wait waits)) = waits_apart (setting_of m own) (receive_on stack) waits
 judged_apart m own stack (pauses.Application function arguments) =
-    ap (λ got. holds (through (setting_of m own) stack got)) (runs_away m own function.now arguments at_rest (omega arith)) ∙ stopped (setting_of m own) stack Runaway
+    ap (λ got. holds (through (setting_of m own) stack got)) (runs_away m own function.now arguments at_rest (within_limit m)) ∙ stopped (setting_of m own) stack Runaway
 
 -- its variables hide only those further out
 pub apart : (setting : Setting) (empty outer both : List Hole) (guard : Tree) (bindings variables env : Environment) → empty ≡ [] → outer ≡ holes.Kept variables ∷ empty → both ≡ holes.Kept bindings ∷ outer → variables ≡ env

@@ -1,6 +1,7 @@
 // The machine that runs one process of a module, from one request of the world to the next.
 #![tactic(auto)]
 
+mod allowed;
 mod build;
 mod control;
 mod enter;

@@ -18,7 +18,7 @@ pub enum Request {
     Receive { waits: bool },
     /// The process has ended, with this reason.
     End(Term),
-    /// The process made 10,000 applications of its module's functions since its start or its last answer, and
+    /// The process made as many applications of its module's functions as that allows since its start or its last answer, and
     /// would make one more. Nothing catches it, and no answer fits.
     Runaway,
 }

@@ -11,6 +11,7 @@ ghost use Rattle.core_eval.specs.Filled.{standing};
 ghost use Rattle.core_eval.specs.Requests.{told_by};
 ghost use Rattle.core_eval.specs.inside.Steps.{AsksNext, going, halted, paused};
 
+use crate::allowed::allowed_by;
 use crate::build::single;
 use crate::control::{Control, Halt, Pause};
 use crate::enter::enter;
@@ -25,11 +26,8 @@ use std::alloc::{AllocError, Global};
 use std::sync::Arc;
 use term_core::{Pid, Term, Word};
 
-/// The most applications between two requests.
-const APPLICATION_LIMIT: usize = 10_000;
-
 /// Runs the process with this pid to the next request or the end, from what is on top of the stack. Where one more application than
-/// the limit would be made since the start or the last answer, the request is a runaway.
+/// the module allows would be made since the start or the last answer, the request is a runaway.
 pub(crate) fn run<'m>(
     alloc: Global,
     program: &'m Module,
@@ -39,8 +37,9 @@ pub(crate) fn run<'m>(
 ) -> Result<Request, AllocError>
     ensures { IfOk result (λ request. AsksNext (setting_of program.now own.now) stack.old control.entry stack.new (told_by request)) }
 {
+    let allowed = allowed_by(program.attributes.as_slice());
     let mut control = control;
-    'applications: for _made in 0..APPLICATION_LIMIT {
+    'applications: for _made in 0..allowed {
         control = match advance(alloc, own, stack, control)? {
             Pause::Halt(halt) => return request_at(alloc, halt),
             Pause::Application(function, arguments) => {

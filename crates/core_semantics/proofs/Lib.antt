@@ -1,3 +1,4 @@
+pub mod Limits
 pub mod Rooms
 pub mod ApplyLaw
 pub mod WorkedRows

@@ -2,14 +2,14 @@
 use Rattle.std.proofs.Common.{◌≡◌, ℕ, zero, suc, ◌&&◌, ◌||◌, Bool, true, false, List, [], ◌∷◌, ◌++◌, map, Option, Some, None, option_map, if◌then◌else◌, length, refl, ap, ◌∙◌}
 use Rattle.std.proofs.lemmas.List.{length-map}
 use Rattle.std.specs.Prelude.{nat_lt, nat_le}
-use Rattle.core_semantics.specs.Applications.{definition, body_with, counted, applied, room, setting_of}
+use Rattle.core_semantics.specs.Applications.{definition, body_with, allowed, counted, applied, room, setting_of}
 use Rattle.core_semantics.specs.Ask.{Entry, ask, arity_limit, first_function, function_of, is_exported, is_first, is_open}
 use Rattle.core_semantics.specs.Ask as asking
 use Rattle.core_semantics.specs.Asked.{Answered, Runaway}
 use Rattle.core_semantics.specs.Clauses.{guarded, taken, within}
 use Rattle.core_semantics.specs.Evaluation.{called_with, choose, evaluate, evaluate_all, selects}
 use Rattle.core_semantics.specs.Exceptions.{caught, caught_values}
-use Rattle.core_semantics.specs.Outcomes.{Setting, State, Stops, Yields, before, handled, limit, limited, one, then_do}
+use Rattle.core_semantics.specs.Outcomes.{Setting, State, Stops, Yields, before, handled, limited, one, then_do}
 use Rattle.core_semantics.specs.Receiving.{at_rest, is_taken, received, timed, waits_with}
 use Rattle.core_stack.specs.Matching.{Environment, and_then, bound, is_nil, literal, match, match_each, match_items}
 use Rattle.core_tree.specs.Callee as callees
@@ -135,7 +135,7 @@ body_bare setting (Some f) arguments s = λ i. within (bound_bare f.0 arguments 
 applied_bare : (depth : ℕ) (m : ModuleTree) (own : List ℕ) (f : Function) (arguments : List Meaning) (s : State) → applied depth (bare_module m) own f arguments s ≡ applied depth m own f arguments s
 applied_bare zero m own f arguments s = refl
 applied_bare (suc depth) m own f arguments s =
-    ap (λ got. if nat_lt s.made limit then got else Stops Runaway)
+    ap (λ got. if nat_lt s.made (allowed m) then got else Stops Runaway)
     ((λ i. body_with (record { own = own; apply = λ g xs t. applied_bare depth m own g xs t i }) (definition_bare f m.definitions i) arguments (counted s))
     ∙ body_bare (record { own = own; apply = applied depth m own }) (definition f m.definitions) arguments (counted s))
 

@@ -18,7 +18,7 @@ use Rattle.core_pure_calls.specs.Calls.{answer_of}
 use Rattle.core_semantics.specs.Asked.{Answered, Value, Raise, Message, TimedOut}
 use Rattle.core_stack.specs.Matching.{Environment, lookup, bound, text_of, match_each}
 use Rattle.core_semantics.specs.Evaluation.{State, before, name, Outcome, Yields, Raises, Stops, Setting, then_do, handled, one, node_limit, limited, limited_error, served, caught, caught_values, limited_answer, class_in, raised_again, value_or_error, within, is_true, guarded, taken, as_one, no_clause, waits_with, timed, received, called_with, evaluate, evaluate_all, choose}
-use Rattle.core_semantics.specs.Applications.{definition, body_with, limit, counted, applied, room, apply_of}
+use Rattle.core_semantics.specs.Applications.{definition, body_with, allowed, counted, applied, room, apply_of}
 use Rattle.core_semantics.specs.Ask.{Entry, first_function, is_open, function_of, request_of, ask}
 use Rattle.core_semantics.specs.Servable.{IsReadRequest}
 
@@ -227,7 +227,7 @@ first_servable m pid e h = either (is_open m pid e) (definition (function_of e) 
 applications_fine : (m : ModuleTree) (own : List ℕ) → IsServableModule m → (depth : ℕ) (f : Function) (vs : List Meaning) (s : State) → Fine (applied depth m own f vs s)
 applications_fine m own h zero f vs s = tt
 applications_fine m own h (suc depth) f vs s =
-    chosen (nat_lt s.made limit) _ _ (body_fine own (applied depth m own) (applications_fine m own h depth) (definition f m.definitions) vs (counted s) (definition_servable f m.definitions h)) tt
+    chosen (nat_lt s.made (allowed m)) _ _ (body_fine own (applied depth m own) (applications_fine m own h depth) (definition f m.definitions) vs (counted s) (definition_servable f m.definitions h)) tt
 
 requested : (g : Outcome) → Fine g → IsReadRequest (request_of g)
 requested (Yields vs s) h = tt

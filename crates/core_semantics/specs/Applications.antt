@@ -6,6 +6,7 @@ use Rattle.term_core.specs.Meaning.{Meaning}
 use Rattle.core_semantics.specs.Asked.{Runaway}
 use Rattle.core_stack.specs.Matching.{bound}
 pub use Rattle.core_semantics.specs.Outcomes.{limit}
+pub use Rattle.core_semantics.specs.Limits.{allowed}
 use Rattle.core_semantics.specs.Evaluation.{State, Outcome, Stops, Setting, error, within, evaluate}
 
 -- the parameters and the body of a function
@@ -22,17 +23,17 @@ body_with setting (Some f) arguments s = within (bound f.0 arguments []) [] (λ 
 abbrev pub counted : State → State
 counted s = record { answers = s.answers; made = s.made + 1 }
 
--- an application, where those in its body give what is reported; one past the limit runs away, which nothing catches
+-- an application, where those in its body give what is reported; one more than the module allows runs away, which nothing catches
 abbrev pub applied_once : ModuleTree → List ℕ → (Function → List Meaning → State → Outcome) → Function → List Meaning → State → Outcome
 applied_once m own apply f arguments s =
-    if nat_lt s.made limit then body_with (record { own = own; apply = apply }) (definition f m.definitions) arguments (counted s) else Stops Runaway
+    if nat_lt s.made (allowed m) then body_with (record { own = own; apply = apply }) (definition f m.definitions) arguments (counted s) else Stops Runaway
 
 -- an application in which fewer than this many others are nested; the nesting of no module is deeper than the room
 abbrev pub applied : ℕ → ModuleTree → List ℕ → Function → List Meaning → State → Outcome
 applied zero m own f arguments s = Stops Runaway
 applied (suc depth) m own f arguments s = applied_once m own (applied depth m own) f arguments s
 
--- the most applications that are still to come: those up to the limit now, and after each answer all of them
+-- the most applications that are still to come in any module: those up to the limit now, and after each answer all of them
 abbrev pub room : State → ℕ
 room s = (limit - s.made) + (limit + 1) * length s.answers
 

@@ -4,6 +4,7 @@ pub mod Exceptions
 pub mod Clauses
 pub mod Receiving
 pub mod Evaluation
+pub mod Limits
 pub mod Applications
 pub mod Ask
 pub mod Servable

@@ -15,9 +15,9 @@ pub record State : Type 0 where
   pub answers : List Answered
   pub made : ℕ
 
--- the most applications between two requests
+-- the most applications between two requests that a module can allow
 abbrev pub limit : ℕ
-limit = 10000
+limit = 1000000
 
 -- before these answers, with no application made
 abbrev pub before : List Answered → State

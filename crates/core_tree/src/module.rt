@@ -91,7 +91,7 @@ impl Model for NamedFunction {
     ghost view = { λ e. record { at = e.at; function = e.function } };
 }
 
-/// An attribute, which has no meaning.
+/// An attribute. One has a meaning to processes: `explore_applications` (docs/LANGUAGE.md, "Evaluation").
 pub struct Attribute {
     /// The name of the attribute.
     pub name: Atom,

@@ -7,5 +7,6 @@ pub mod MergeLaws
 pub mod ReportEnds
 pub mod ReportLaws
 pub mod RunLaws
+pub mod SampleLaws
 pub mod StatesLaws
 pub mod TheoremLaws

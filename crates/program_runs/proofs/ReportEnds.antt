@@ -1,4 +1,4 @@
--- How the text of a report ends: with `result: clean, all schedules` only where it is clean of all schedules, and with `result: clean, all prompt schedules` only where it is clean of all prompt ones, whether or not a cover follows.
+-- How the text of a report ends: with `result: clean, all schedules` only where it is clean of all schedules, and with `result: clean, all prompt schedules` only where it is clean of all prompt ones, whether or not a cover follows. One of terms ends with neither.
 use Rattle.std.proofs.Common.{arith, ◌≡◌, ◌≤◌, ◌<◌, ◌==◌, ◌/◌, ◌%◌, ◌+◌, ℕ, zero, suc, Bool, true, false, true≢false, nat_lt, if◌then◌else◌, List, [], ◌∷◌, ◌++◌, Option, Some, None, reverse, codes, refl, sym, ap, subst, ◌∙◌, append_assoc, append-nil, eqb-true, eq-eqb, ne_eqb}
 use Rattle.std.proofs.lemmas.List.{append_cancel_right, reverse-append}
 use Rattle.std.specs.Fmt.{decimal, digits, digit_glyph, digits_onto}
@@ -22,8 +22,9 @@ use Rattle.report_text.specs.declared.visited.Visited.{Visited}
 use Rattle.tree_schedules.specs.declared.delivery.Delivery.{Delivery}
 use Rattle.tree_schedules.specs.declared.delivery.Delivery.TheVariants.{AnyTime, AtOnce}
 use Rattle.report_explained.specs.Explained.{explained_findings, text_of_explained_report_by}
+use Rattle.report_terms.specs.TermsReport.{counts_line, explored_line, lines_of_findings, reach_as_term, result_line, text_of_terms_report}
 use Rattle.program_words.specs.declared.words.Printed.{Printed}
-use Rattle.program_runs.specs.Explored.{cover_if, text_of_form}
+use Rattle.program_runs.specs.Explored.{cover_if, report_as_text, text_of_form}
 use Rattle.program_runs.specs.Theorem.{text_after}
 
 -- the line, with its end
@@ -157,10 +158,45 @@ of_all v w front depth (f ∷ fs) cut false other is e =
 three_first : (a b c d : List ℕ) → ((a ++ b) ++ c) ++ d ≡ a ++ (b ++ (c ++ d))
 three_first a b c d = append_assoc (a ++ b) c d ∙ append_assoc a b (c ++ d)
 
+-- ---- a report as terms
+
+-- it ends with a brace, a full stop and the end of its line
+record EndsWithBrace (text : List ℕ) : Type 0 where
+  front : List ℕ
+  parts : text ≡ front ++ codes "}.\n"
+
+-- as a line of several parts does
+brace_last : (a b c d : List ℕ) → EndsWithBrace (a ++ (b ++ (c ++ (d ++ codes "}.\n"))))
+brace_last a b c d = record {
+  front = ((a ++ b) ++ c) ++ d;
+  parts = sym (append_assoc ((a ++ b) ++ c) d (codes "}.\n") ∙ three_first a b c (d ++ codes "}.\n"));
+}
+
+-- whatever comes before it
+brace_after : (before text : List ℕ) → EndsWithBrace text → EndsWithBrace (before ++ text)
+brace_after before text e = record {
+  front = before ++ e.front;
+  parts = ap (λ (t : List ℕ). before ++ t) e.parts ∙ sym (append_assoc before e.front (codes "}.\n"));
+}
+
+-- so it ends where all nodes or states were visited
+terms_end : (v : Visited) (a : Program) (n : ℕ) (x : Excuses) (findings : Findings) (extent : Extent) → EndsWithBrace (text_of_terms_report v a n x (Complete findings extent))
+terms_end v a n x findings extent =
+    subst EndsWithBrace (three_first (explored_line v n outcome) (lines_of_findings a x findings) (counts_line x findings) (result_line n x outcome))
+    (brace_after ((explored_line v n outcome ++ lines_of_findings a x findings) ++ counts_line x findings) (result_line n x outcome)
+    (brace_last (codes "{result,") (complete_result (counted x findings.errors)) (codes ",") (reach_as_term n extent)))
+  where
+    outcome : Outcome
+    outcome = Complete findings extent
+
+-- and not with the line
+not_terms : (w : Delivery) (text other : List ℕ) → EndsWithBrace text → text ≡ other ++ said w → ⊥
+not_terms w text other t e = omega (arith, ap (byte_at 1) (mirrored t.front (codes "}.\n") other (said w) (sym t.parts ∙ e)) ∙ ends_in_s w (reverse other))
+
 -- so a report of all nodes or states that ends with the line is clean of all such schedules
 pub clean_of_all : (what : Printed) (v : Visited) (w : Delivery) (a : Program) (n : ℕ) (x : Excuses) (findings : Findings) (extent : Extent) (other : List ℕ) → text_of_form what v a n x (Complete findings extent) ≡ other ++ said w
     → (delivery_in v ≡ w) × IsCleanOfAll x (Complete findings extent)
-clean_of_all what v w a n x findings extent other e = go what.explained e
+clean_of_all what v w a n x findings extent other e = by what.terms e
   where
     outcome : Outcome
     outcome = Complete findings extent
@@ -172,6 +208,10 @@ clean_of_all what v w a n x findings extent other e = go what.explained e
     go false same =
         absurd (not_plain w ((first_line_by v n outcome ++ text_of_all x findings) ++ text_of_counts x findings) (counted x findings.errors) other
         (three_first (first_line_by v n outcome) (text_of_all x findings) (text_of_counts x findings) (last_line x outcome) ∙ same))
+
+    by : (b : Bool) → (if b then text_of_terms_report v a n x outcome else report_as_text what v a n x outcome) ≡ other ++ said w → (delivery_in v ≡ w) × IsCleanOfAll x outcome
+    by true same = absurd (not_terms w (text_of_terms_report v a n x outcome) other (terms_end v a n x findings extent) same)
+    by false same = go what.explained same
 
 -- ---- the bytes of covers
 
@@ -290,6 +330,13 @@ no_cover text other lines s e =
 line_end : Lacks 37 (codes "\n")
 line_end = (refl, tt)
 
+-- a closing brace
+brace : IsStrange 125
+brace = record { process = refl; dot = refl; to = refl; blank = refl; line = refl; digit = λ g is. ne_eqb g 125 (λ e. absurd (omega (arith, is.1, e))); mark = (refl, (refl, (refl, (refl, (refl, (refl, tt)))))) }
+
+brace_ends : (text : List ℕ) → EndsWithBrace text → EndsStrangely text
+brace_ends text e = record { front = e.front; letter = 125; end = codes ".\n"; parts = e.parts; is_strange = brace; is_letter = omega arith; no_mark = (refl, line_end) }
+
 said_ends : (w : Delivery) → EndsStrangely (said w)
 said_ends AnyTime = record { front = codes "result: clean, all schedule"; letter = 115; end = codes "\n"; parts = refl; is_strange = letter_s; is_letter = omega arith; no_mark = line_end }
 said_ends AtOnce = record { front = codes "result: clean, all prompt schedule"; letter = 115; end = codes "\n"; parts = refl; is_strange = letter_s; is_letter = omega arith; no_mark = line_end }
@@ -324,7 +371,7 @@ explained_ends v depth (f ∷ fs) false = record {
 
 -- so ends a report of all nodes
 pub report_ends : (what : Printed) (v : Visited) (a : Program) (n : ℕ) (x : Excuses) (findings : Findings) (extent : Extent) → EndsStrangely (text_of_form what v a n x (Complete findings extent))
-report_ends what v a n x findings extent = go what.explained
+report_ends what v a n x findings extent = by what.terms
   where
     outcome : Outcome
     outcome = Complete findings extent
@@ -336,6 +383,10 @@ report_ends what v a n x findings extent = go what.explained
     go false =
         subst EndsStrangely (three_first (first_line_by v n outcome) (text_of_all x findings) (text_of_counts x findings) (last_line x outcome))
         (after ((first_line_by v n outcome ++ text_of_all x findings) ++ text_of_counts x findings) (last_line x outcome) (plain_ends (counted x findings.errors)))
+
+    by : (b : Bool) → EndsStrangely (if b then text_of_terms_report v a n x outcome else report_as_text what v a n x outcome)
+    by true = brace_ends (text_of_terms_report v a n x outcome) (terms_end v a n x findings extent)
+    by false = go what.explained
 
 -- ---- what comes before a cover
 

@@ -1,5 +1,5 @@
 -- The statements of the theorem, from what is so of each run of the program.
-use Rattle.std.proofs.Common.{arith, ◌≡◌, ◌≤◌, ◌⊎◌, ℕ, Bool, List, [], ◌∷◌, ◌++◌, length, Option, Some, None, inl, inr, refl, sym, ap, subst, ◌∙◌}
+use Rattle.std.proofs.Common.{arith, ◌≡◌, ◌≤◌, ◌⊎◌, ℕ, Bool, List, [], ◌∷◌, ◌++◌, length, not, true, Option, Some, None, inl, inr, refl, sym, ap, subst, ◌∙◌, append-nil}
 use Rattle.std.proofs.lemmas.List.{append_cancel_left, length-map}
 use Rattle.std.specs.Io.KnownBytes.{Appends}
 use Rattle.std.specs.Prelude.{Result, Ok, Err, string_bytes}
@@ -13,13 +13,16 @@ use Rattle.term_core.specs.declared.schedule.ScheduleFault.{ScheduleFault}
 use Rattle.term_core.specs.declared.schedule.ScheduleFault.TheVariants as schedule
 use Rattle.world_model.specs.Asking.{program_of}
 use Rattle.world_model.specs.Requests.{Program}
+use Rattle.world_model.specs.Names.{IsAmong}
 use Rattle.world_model.specs.Run.{run}
+use Rattle.world_model.specs.Shown.{Flags, is_error}
 use Rattle.tree_coverage.specs.Findings.{ErrorsAreOfNodes, Finding, Findings, FindingsAreSorted, RefusalsAreOfNodes}
 use Rattle.tree_coverage.specs.Jobs.{RootHasAllNodes, nodes_of, root}
 use Rattle.tree_coverage.specs.Trees.{NodesRun}
+use Rattle.tree_coverage.proofs.Lists.{both_true, kept_passes}
 use Rattle.tree_covers.specs.declared.fault.CoverFault.{CoverFault}
 use Rattle.tree_covers.specs.declared.fault.CoverFault.TheVariants as cover
-use Rattle.tree_excuses.specs.Excuses.{Excuses, counted, counts, excuses_in}
+use Rattle.tree_excuses.specs.Excuses.{Excuses, counted, counts, excuses_in, is_excused}
 use Rattle.world_identities.specs.Identities.{flags_in}
 use Rattle.tree_findings.specs.declared.extent.Extent.{Extent}
 use Rattle.tree_findings.specs.declared.options.Options.{Options}
@@ -36,22 +39,25 @@ use Rattle.report_reader.specs.declared.fault.ReportFault.TheVariants as report
 use Rattle.world_replay.specs.Replay.{reached, stop}
 use Rattle.search_crew.specs.Outcomes.{all_findings, whole_extent}
 use Rattle.search_jobs.specs.Explorations.{ExplorationSeen, explored_by, program_in}
+use Rattle.search_samples.specs.Samples.{SamplesAreShown}
+use Rattle.search_samples.specs.declared.sample.Samples.{Samples}
 use Rattle.report_text.specs.Clean.{IsCleanOfAll, all_clean_line}
 use Rattle.report_text.specs.ReportText.{delivery_in}
 use Rattle.tree_schedules.specs.declared.delivery.Delivery.{Delivery}
 use Rattle.tree_schedules.specs.declared.delivery.Delivery.TheVariants.{AnyTime, AtOnce}
 use Rattle.report_text.specs.declared.visited.Visited.{Visited}
 use Rattle.report_text.specs.declared.visited.Visited.TheVariants.{Nodes, States}
-use Rattle.program_words.specs.Words.{AsksExplore, AsksReplay, IsExplore}
+use Rattle.program_words.specs.Words.{AsksExplore, AsksReplay, AsksSample, IsExplore}
 use Rattle.program_words.specs.declared.words.Printed.{Printed}
 use Rattle.program_words.specs.declared.words.Words.{Words}
-use Rattle.program_words.specs.declared.words.Words.TheVariants.{Replay, Explore, ExploreJob, Jobs, Merge, Check}
+use Rattle.program_words.specs.declared.words.Words.TheVariants.{Replay, Explore, ExploreJob, Jobs, Merge, Check, Sample}
 use Rattle.program_runs.specs.Replayed.{IsReplayOf}
 use Rattle.program_runs.specs.Explored.{IsCleanIfSaid, IsExplorationOf, IsExplored, IsOutcomeBy, IsReportOf, ShowsNoErrorEver, complete_verdict, delivery_by, has_cover, print_of, text_of_form, verdict_of}
 use Rattle.program_runs.specs.Printing.{text_of_print}
+use Rattle.program_runs.specs.Sampled.{IsSampleOf, sample_verdict, text_of_samples}
 use Rattle.program_runs.specs.Program.{IsDone, Written}
-use Rattle.program_runs.specs.Status.{status_of, status_of_cover_fault, status_of_fault, status_of_job_fault, status_of_read_fault, status_of_report_fault, status_of_schedule_fault}
-use Rattle.program_runs.specs.Theorem.{AllMeansAll, AllPromptMeansAllPrompt, AreFoundBy, AreOfAll, AreOfTree, CleanMeansNone, CleanMeansNoPromptOne, Got, HasExactReport, HasNoError, HasNoErrorEver, HasTranscript, IsExtentBy, IsExtentOf, ProgramRun, PromptReportIsExact, ReportEndsWith, ReportIsExact, ScheduleIsLeast, TranscriptIsTheRun, findings_by, text_after, visited_by}
+use Rattle.program_runs.specs.Status.{status_of, status_of_cover_fault, status_of_fault, status_of_job_fault, status_of_read_fault, status_of_report_fault, status_of_schedule_fault, status_of_verdict}
+use Rattle.program_runs.specs.Theorem.{AllMeansAll, AllPromptMeansAllPrompt, AreFoundBy, AreOfAll, AreOfTree, CleanMeansNone, CleanMeansNoPromptOne, Got, HasExactReport, HasNoError, HasNoErrorEver, HasSampleReport, HasTranscript, IsExtentBy, IsExtentOf, ProgramRun, PromptReportIsExact, ReportEndsWith, ReportIsExact, SampleIsShown, ScheduleIsLeast, TranscriptIsTheRun, findings_by, text_after, visited_by}
 use Rattle.program_runs.specs.declared.verdict.RunFault.{RunFault}
 use Rattle.program_runs.specs.declared.verdict.RunFault.TheVariants as run_faults
 use Rattle.program_runs.specs.declared.verdict.Verdict.{Verdict}
@@ -78,6 +84,15 @@ three_is_not e = omega (arith, e)
 
 three_is_more : 3 ≤ 1 → ⊥
 three_is_more e = omega (arith, e)
+
+zero_is_less : ◌≡◌ {A = ℕ} 0 1 → ⊥
+zero_is_less e = omega (arith, e)
+
+three_is_no_one : ◌≡◌ {A = ℕ} 3 1 → ⊥
+three_is_no_one e = omega (arith, e)
+
+one_is_low : 1 ≤ 1
+one_is_low = omega arith
 
 zero_is_low : 0 ≤ 1
 zero_is_low = omega arith
@@ -155,6 +170,7 @@ clean_asked (ExploreJob found excused line) input options x what output r asks d
 clean_asked (Jobs depth) input options x what output r asks done good = absurd asks
 clean_asked (Merge depth at flags excused) input options x what output r asks done good = absurd asks
 clean_asked (Check depth flags excused) input options x what output r asks done good = absurd asks
+clean_asked (Sample samples excused prints) input options x what output r asks done good = absurd asks
 
 clean_by : (r : ProgramRun) (options : Options) (x : Excuses) (what : Printed) → IsExplore r.words options x what → r.status ≡ 0 → HasNoError (delivery_by options.search) r.input options.depth (counts (flags_in options.flags) x)
 clean_by r options x what e good =
@@ -206,6 +222,7 @@ whole_asked (ExploreJob found excused line) input options x what output r asks d
 whole_asked (Jobs depth) input options x what output r asks done low = absurd asks
 whole_asked (Merge depth at flags excused) input options x what output r asks done low = absurd asks
 whole_asked (Check depth flags excused) input options x what output r asks done low = absurd asks
+whole_asked (Sample samples excused prints) input options x what output r asks done low = absurd asks
 
 -- 0 and 1 are at most 1
 low_status : (status n : ℕ) → status ≡ n → (status ≡ 0) ⊎ (status ≡ 1) → n ≤ 1
@@ -363,6 +380,71 @@ all_means_all law = all_by law AnyTime
 pub all_prompt : TreeLaws → AllPromptMeansAllPrompt
 all_prompt law = all_by law AtOnce
 
+-- ---- what a sample reports is shown
+
+-- where the errors that count make its verdict, one of those that are listed counts
+one_counts : (flags : Flags) (x : Excuses) (fs : List Finding) → ((f : Finding) → IsAmong f fs → is_error flags f.identity ≡ true) → Errors ≡ sample_verdict (counted x fs)
+    → (f : Finding) × IsAmong f fs × (counts flags x f.identity ≡ true)
+one_counts flags x fs are told = go (counted x fs) (λ f there. there) told
+  where
+    go : (gs : List Finding) → ((f : Finding) → IsAmong f gs → IsAmong f (counted x fs)) → Errors ≡ sample_verdict gs → (f : Finding) × IsAmong f fs × (counts flags x f.identity ≡ true)
+    go [] within told = absurd cc
+    go (g ∷ gs) within told =
+        let k : (not (is_excused x g.identity) ≡ true) × IsAmong g fs = kept_passes (λ (f : Finding). not (is_excused x f.identity)) fs g (within g (inl refl)) in
+        (g, k.1, both_true (is_error flags g.identity) (not (is_excused x g.identity)) (are g k.1) k.0)
+
+sample_said : SamplesAreShown → (input : List ℕ) (samples : Samples) (x : Excuses) (what : Printed) (output : Written) (r : Result Verdict RunFault)
+    → IsSampleOf input samples x what output.old output.new output.failed r → status_of r ≡ 1 → HasSampleReport input samples x what output
+sample_said law input samples x what output (Ok Done) is one = absurd (zero_is_less one)
+sample_said law input samples x what output (Ok Clean) is one = absurd (zero_is_less one)
+sample_said law input samples x what output (Ok Errors) is one =
+    let a : Program = program_of is.sampled.program in
+    let shown = law (flags_in samples.flags) samples.delivery a samples.depth samples.runs is.findings is.sampled.are_found in
+    record {
+      program = is.sampled.program;
+      module_text = is.sampled.module_text;
+      findings = is.findings;
+      found = is.sampled.are_found;
+      errors = shown.0;
+      refusals = shown.1;
+      one_counts = one_counts (flags_in samples.flags) x is.findings.errors (λ f there. (shown.0 f there).0) is.told;
+      got = subst (λ (t : List ℕ). WritesAll output.old output.new output.failed t) (append-nil (text_of_samples what samples a x is.findings)) is.written;
+    }
+sample_said law input samples x what output (Ok Incomplete) is one = absurd (three_is_no_one one)
+sample_said law input samples x what output (Err fault) is one = absurd (no_fault fault 1 one one_is_low)
+
+-- whatever is found, it is never clean
+never_clean : (fs : List Finding) → status_of_verdict (sample_verdict fs) ≡ 0 → ⊥
+never_clean [] e = three_is_not e
+never_clean (f ∷ fs) e = one_is_not e
+
+sample_never : (input : List ℕ) (samples : Samples) (x : Excuses) (what : Printed) (output : Written) (r : Result Verdict RunFault)
+    → IsSampleOf input samples x what output.old output.new output.failed r → status_of r ≡ 0 → ⊥
+sample_never input samples x what output (Ok verdict) is good = never_clean (counted x is.findings.errors) (ap status_of_verdict (sym is.told) ∙ good)
+sample_never input samples x what output (Err fault) is good = no_fault fault 0 good zero_is_low
+
+sample_asked : SamplesAreShown → (asked : Words) (input : List ℕ) (samples : Samples) (x : Excuses) (what : Printed) (output : Written) (r : Result Verdict RunFault)
+    → AsksSample samples x what asked → IsDone asked input output.old output.new output.failed r → (status_of r ≡ 0 → ⊥) × (status_of r ≡ 1 → HasSampleReport input samples x what output)
+sample_asked law (Sample found excused prints) input samples x what output r asks done = (
+  λ good. sample_never input found (excuses_in excused) prints output r done good,
+  λ one.
+      subst (λ (s : Samples). HasSampleReport input s x what output) asks.0
+      (subst (λ (y : Excuses). HasSampleReport input found y what output) asks.1.0
+      (subst (λ (p : Printed). HasSampleReport input found (excuses_in excused) p output) asks.1.1 (sample_said law input found (excuses_in excused) prints output r done one))),
+)
+sample_asked law (Replay schedule) input samples x what output r asks done = absurd asks
+sample_asked law (Explore found excused prints) input samples x what output r asks done = absurd asks
+sample_asked law (ExploreJob found excused line) input samples x what output r asks done = absurd asks
+sample_asked law (Jobs depth) input samples x what output r asks done = absurd asks
+sample_asked law (Merge depth at flags excused) input samples x what output r asks done = absurd asks
+sample_asked law (Check depth flags excused) input samples x what output r asks done = absurd asks
+
+pub sample_is_shown : SamplesAreShown → SampleIsShown
+sample_is_shown law r samples x what e =
+    let u = r.is_run in
+    let is = sample_asked law u.asked r.input samples x what r.output u.outcome (u.sample samples x what e) u.run in
+    (λ good. is.0 (sym u.status_is ∙ good), λ one. is.1 (sym u.status_is ∙ one))
+
 -- ---- the transcript is the run
 
 transcript_said : ((a : Program) (steps : List Step) → stop a steps ≡ None → run a steps ≡ Some (reached a steps)) → (input word : List ℕ) (output : Written) (r : Result Verdict RunFault)
@@ -388,6 +470,7 @@ transcript_asked whole (ExploreJob found excused line) input word output r asks 
 transcript_asked whole (Jobs depth) input word output r asks done good = absurd asks
 transcript_asked whole (Merge depth at flags excused) input word output r asks done good = absurd asks
 transcript_asked whole (Check depth flags excused) input word output r asks done good = absurd asks
+transcript_asked whole (Sample samples excused prints) input word output r asks done good = absurd asks
 
 pub transcript_is_the_run : ((a : Program) (steps : List Step) → stop a steps ≡ None → run a steps ≡ Some (reached a steps)) → TranscriptIsTheRun
 transcript_is_the_run whole r word e good =

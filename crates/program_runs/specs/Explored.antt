@@ -1,5 +1,5 @@
 -- What an exploration of the program results in, by the bytes that it is given.
-use Rattle.std.specs.Prelude.{◌≡◌, ◌↔◌, ℕ, Bool, true, false, List, [], ◌∷◌, Option, Result, Ok, Err, if◌then◌else◌}
+use Rattle.std.specs.Prelude.{◌≡◌, ◌↔◌, ◌||◌, ℕ, Bool, true, false, List, [], ◌∷◌, Option, Result, Ok, Err, if◌then◌else◌}
 use Rattle.core_tree.specs.Syntax.{ModuleTree}
 use Rattle.core_reader.specs.ModuleText.{SpellsModule}
 use Rattle.core_reader.specs.Refusal.{IsRefusalOf}
@@ -21,6 +21,7 @@ use Rattle.tree_findings.specs.declared.options.Search.TheVariants.{ByTree, BySt
 use Rattle.tree_findings.specs.declared.outcome.Outcome.{Outcome}
 use Rattle.tree_findings.specs.declared.outcome.Outcome.TheVariants as outcomes
 use Rattle.report_explained.specs.Explained.{text_of_explained_report_by}
+use Rattle.report_terms.specs.TermsReport.{text_of_terms_report}
 use Rattle.search_crew.specs.Outcomes.{IsOutcome}
 use Rattle.search_levels.specs.Searched.{IsOutcomeOfAll}
 use Rattle.search_jobs.specs.Explorations.{ExplorationSeen, explored_by, program_in}
@@ -109,20 +110,31 @@ abbrev pub cover_if : Bool → Program → ℕ → List ℕ
 cover_if true a n = text_of_cover (lines_of (cover_of a n root))
 cover_if false a n = []
 
--- the report, explained where that is asked for
+-- the report as text, explained where that is asked for
+abbrev pub report_as_text : Printed → Visited → Program → ℕ → Excuses → Outcome → List ℕ
+report_as_text what visited a n x outcome = if what.explained then text_of_explained_report_by visited a n x outcome else text_of_report_by visited n x outcome
+
+-- the report, as terms where that is asked for, and else as text
 abbrev pub text_of_form : Printed → Visited → Program → ℕ → Excuses → Outcome → List ℕ
-text_of_form what visited a n x outcome = if what.explained then text_of_explained_report_by visited a n x outcome else text_of_report_by visited n x outcome
+text_of_form what visited a n x outcome = if what.terms then text_of_terms_report visited a n x outcome else report_as_text what visited a n x outcome
+
+-- what was found is explained, in text or in terms, which hold as much
+abbrev pub explains : Printed → Bool
+explains what = what.terms || what.explained
 
 -- what an exploration prints
 abbrev pub print_of : Printed → Visited → Program → ℕ → Excuses → Outcome → Print
 print_of what visited a n x outcome = record {
   report = text_of_form what visited a n x outcome;
-  is_explained = what.explained;
+  is_explained = explains what;
   behind = cover_if (has_cover what (verdict_of x outcome)) a n;
   is_cover = has_cover what (verdict_of x outcome);
 }
 
--- of what was found
+-- of a module, and of what was found
+abbrev pub text_found : Printed → ModuleTree → ℕ → Excuses → Explored → List ℕ
+text_found what m n x found = report_as_text what found.visited (program_of m) n x found.outcome
+
 abbrev pub form_found : Printed → ModuleTree → ℕ → Excuses → Explored → List ℕ
 form_found what m n x found = text_of_form what found.visited (program_of m) n x found.outcome
 

@@ -10,5 +10,6 @@ pub mod Explored
 pub mod Checked
 pub mod JobRuns
 pub mod MergeRuns
+pub mod Sampled
 pub mod Program
 pub mod Theorem

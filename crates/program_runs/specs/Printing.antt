@@ -9,7 +9,7 @@ use Rattle.term_core.specs.Stream.{AppendsBeginning, BreaksOff, WritesAll}
 use Rattle.program_runs.specs.declared.print_fault.PrintFault.{PrintFault}
 use Rattle.program_runs.specs.declared.print_fault.PrintFault.TheVariants.{ReportCutOff, CoverCutOff, Write}
 
--- what is to be printed: the text of the report, and whether it is explained; the text after it, and whether that is a cover
+-- what is to be printed: the text of the report, and whether it is explained, in text or in terms; the text after it, and whether that is a cover
 pub record Print : Type 0 where
   pub report : List ℕ
   pub is_explained : Bool

@@ -6,10 +6,11 @@ use Rattle.tree_excuses.specs.Excuses.{Excuses, counts, excuses_in}
 use Rattle.world_identities.specs.Identities.{flags_in}
 use Rattle.world_identities.specs.declared.flags.Flags.{Flags}
 use Rattle.tree_findings.specs.declared.options.Options.{Options}
-use Rattle.program_words.specs.Words.{AsksCheck, AsksExplore, AsksExploreJob, AsksJobs, AsksMerge, AsksReplay, IsCheck, IsExplore, IsExploreJob, IsInRange, IsJobs, IsMerge, IsNamed, IsReplay, command_of}
+use Rattle.search_samples.specs.declared.sample.Samples.{Samples}
+use Rattle.program_words.specs.Words.{AsksCheck, AsksExplore, AsksExploreJob, AsksJobs, AsksMerge, AsksReplay, AsksSample, IsCheck, IsExplore, IsExploreJob, IsInRange, IsJobs, IsMerge, IsNamed, IsReplay, IsSample, command_of}
 use Rattle.program_words.specs.declared.words.Words.{Words}
 use Rattle.program_words.specs.declared.words.Printed.{Printed}
-use Rattle.program_words.specs.declared.words.Words.TheVariants.{Replay, Explore, ExploreJob, Jobs, Merge, Check}
+use Rattle.program_words.specs.declared.words.Words.TheVariants.{Replay, Explore, ExploreJob, Jobs, Merge, Check, Sample}
 use Rattle.program_runs.specs.Replayed.{IsReplayOf}
 use Rattle.program_runs.specs.FaultText.{text_of_fault}
 use Rattle.program_runs.specs.Status.{status_of}
@@ -17,6 +18,7 @@ use Rattle.program_runs.specs.Checked.{IsCheckOf}
 use Rattle.program_runs.specs.Explored.{IsExplorationOf, IsCleanIfSaid}
 use Rattle.program_runs.specs.JobRuns.{IsJobRunOf, IsListingOf}
 use Rattle.program_runs.specs.MergeRuns.{ComesToTree, IsMergeOf}
+use Rattle.program_runs.specs.Sampled.{IsSampleOf}
 use Rattle.program_runs.specs.Input.{IsUnread}
 use Rattle.program_runs.specs.declared.verdict.RunFault.{RunFault}
 use Rattle.program_runs.specs.declared.verdict.RunFault.TheVariants as faults
@@ -46,7 +48,7 @@ abbrev pub IsReported : Written → Result Verdict RunFault → Type 0
 IsReported errors (Ok verdict) = IsUntouched errors
 IsReported errors (Err fault) = Gets errors (text_of_fault fault)
 
--- what was asked for was done with the input: a schedule was replayed, or the schedules were explored, all of them or those of a job, or jobs were listed, or reports were put together, which result in that of a tree where they are those of its parts, or a cover was checked
+-- what was asked for was done with the input: a schedule was replayed, or the schedules were explored, all of them or those of a job, or jobs were listed, or reports were put together, which result in that of a tree where they are those of its parts, or a cover was checked, or random schedules were followed
 abbrev pub IsDone : Words → List ℕ → (old new : Option (List ℕ)) → Bool → Result Verdict RunFault → Type 0
 IsDone (Replay schedule) input old new failed outcome = IsReplayOf input (string_bytes schedule) old new failed outcome
 IsDone (Explore options x what) input old new failed outcome = IsExplorationOf input options (excuses_in x) what old new failed outcome × IsCleanIfSaid input options (excuses_in x) outcome
@@ -54,6 +56,7 @@ IsDone (ExploreJob options x line) input old new failed outcome = IsJobRunOf inp
 IsDone (Jobs depth) input old new failed outcome = IsListingOf input depth old new failed outcome
 IsDone (Merge depth at flags x) input old new failed outcome = IsMergeOf input depth at (flags_in flags) (excuses_in x) old new failed outcome × ComesToTree input depth at (flags_in flags) (excuses_in x) old new failed outcome
 IsDone (Check depth flags x) input old new failed outcome = IsCheckOf input depth (counts (flags_in flags) (excuses_in x)) old new failed outcome
+IsDone (Sample samples x what) input old new failed outcome = IsSampleOf input samples (excuses_in x) what old new failed outcome
 
 -- the input could not be read: a read has failed, or, where it is read whole, the reads are used up
 abbrev pub CannotBeRead : Words → Option (List ℕ) → Bool → Type 0
@@ -63,6 +66,7 @@ CannotBeRead (ExploreJob options x line) input failed = failed ≡ true
 CannotBeRead (Jobs depth) input failed = failed ≡ true
 CannotBeRead (Merge depth at flags x) input failed = IsUnread input failed
 CannotBeRead (Check depth flags x) input failed = IsUnread input failed
+CannotBeRead (Sample samples x what) input failed = failed ≡ true
 
 -- what the words ask for was done with the input, a read of which may have failed: what it wrote to the output was flushed, the third stream got the line of a refusal or nothing, and the status is that of its end
 pub record IsRun (words : List (List ℕ)) (input : Option (List ℕ)) (failed : Bool) (output errors : Written) (status : ℕ) : Type 0 where
@@ -73,6 +77,7 @@ pub record IsRun (words : List (List ℕ)) (input : Option (List ℕ)) (failed :
   pub jobs : (depth : ℕ) → IsJobs words depth → AsksJobs depth asked
   pub merge : (depth at : ℕ) (flags : Flags) (x : Excuses) → IsMerge words depth at flags x → AsksMerge depth at flags x asked
   pub check : (depth : ℕ) (flags : Flags) (x : Excuses) → IsCheck words depth flags x → AsksCheck depth flags x asked
+  pub sample : (samples : Samples) (x : Excuses) (what : Printed) → IsSample words samples x what → AsksSample samples x what asked
   pub named : IsNamed words (command_of asked)
   pub in_range : IsInRange asked
   pub outcome : Result Verdict RunFault
@@ -95,6 +100,7 @@ pub record AreRefused (words : List (List ℕ)) (output errors : Written) : Type
   pub no_jobs : (depth : ℕ) → IsJobs words depth → text ≡ codes "error: out of memory\n"
   pub no_merge : (depth at : ℕ) (flags : Flags) (x : Excuses) → IsMerge words depth at flags x → text ≡ codes "error: out of memory\n"
   pub no_check : (depth : ℕ) (flags : Flags) (x : Excuses) → IsCheck words depth flags x → text ≡ codes "error: out of memory\n"
+  pub no_sample : (samples : Samples) (x : Excuses) (what : Printed) → IsSample words samples x what → text ≡ codes "error: out of memory\n"
 
 -- there was no memory for the words: the output got nothing, and the third stream the parser's text for that
 abbrev pub HaveNoMemory : (output errors : Written) → Type 0

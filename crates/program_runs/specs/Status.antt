@@ -58,7 +58,7 @@ status_of_fault run.ReportCutOff = 3
 status_of_fault run.CoverCutOff = 3
 status_of_fault run.Output = 4
 
--- of what was not refused: done, the cover good, or without an error; with errors; nodes were left
+-- of what was not refused: done, the cover good, or without an error; with errors; nodes were left, or random schedules show nothing
 abbrev pub status_of_verdict : Verdict → ℕ
 status_of_verdict Done = 0
 status_of_verdict Clean = 0

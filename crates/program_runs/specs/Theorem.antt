@@ -1,4 +1,4 @@
--- What the program promises, in nine statements about each of its runs.
+-- What the program promises, in ten statements about each of its runs.
 use Rattle.std.specs.Prelude.{◌≡◌, ◌⊎◌, ◌≤◌, ℕ, Bool, true, List, [], ◌∷◌, ◌++◌, length, codes, Option, Some, None}
 use Rattle.term_core.specs.Meaning.{Meaning}
 use Rattle.term_core.specs.Stream.{WritesAll}
@@ -14,7 +14,7 @@ use Rattle.world_model.specs.Names.{IsAmong, Pid}
 use Rattle.world_model.specs.Requests.{Program}
 use Rattle.world_model.specs.Run as schedules
 use Rattle.world_model.specs.Run.{run}
-use Rattle.world_model.specs.Shown.{Identity}
+use Rattle.world_model.specs.Shown.{Identity, is_error, is_refusal}
 use Rattle.tree_coverage.specs.Covers.{Lines}
 use Rattle.tree_coverage.specs.Findings.{AreSorted, Finding, Findings, IsLeast}
 use Rattle.tree_coverage.specs.Trees.{node_count, nodes}
@@ -30,18 +30,21 @@ use Rattle.tree_findings.specs.declared.outcome.Outcome.TheVariants.{Complete}
 use Rattle.search_crew.specs.Outcomes.{all_findings}
 use Rattle.search_jobs.specs.Explorations.{ExplorationSeen, explored_by, program_in}
 use Rattle.search_levels.specs.Searched.{TellsReach}
+use Rattle.search_samples.specs.Samples.{AreOfSamples, IsShownBeside}
+use Rattle.search_samples.specs.declared.sample.Samples.{Samples}
 use Rattle.tree_schedules.specs.Schedules.{IsEverShownBy, IsLeastOfAll, findings_of_all}
 use Rattle.tree_schedules.specs.declared.delivery.Delivery.{Delivery}
 use Rattle.tree_schedules.specs.declared.delivery.Delivery.TheVariants.{AnyTime, AtOnce}
 use Rattle.report_text.specs.declared.visited.Visited.{Visited}
 use Rattle.report_text.specs.declared.visited.Visited.TheVariants.{Nodes, States}
 use Rattle.world_event_text.specs.EventText.{text_of_events}
-use Rattle.program_words.specs.Words.{IsExplore, IsReplay}
+use Rattle.program_words.specs.Words.{IsExplore, IsReplay, IsSample}
 use Rattle.program_words.specs.declared.words.Printed.{Printed}
 use Rattle.program_runs.specs.Replayed.{IsGiven}
 use Rattle.program_runs.specs.Explored.{IsListedBy, IsListedOfAllBy, ShowsNothingBy, delivery_by, print_of}
 use Rattle.program_runs.specs.Printing.{text_of_print}
 use Rattle.program_runs.specs.Program.{IsRun, Written}
+use Rattle.program_runs.specs.Sampled.{text_of_samples}
 
 -- a run of the program: its words, the bytes of its input and whether a read has failed, what its two outputs got, and its status
 pub record ProgramRun : Type 0 where
@@ -140,6 +143,17 @@ pub record HasLeastSchedules (d : Delivery) (input : List ℕ) (options : Option
   pub refusals : (f : Finding) → IsAmong f findings.refusals → IsLeastOfAll d (program_of program) options.depth f
   pub got : Got output (text_of_print (print_of what (States d options.depth) (program_of program) options.depth x (Complete findings extent)))
 
+-- the output got the report of what so many random schedules show. Each error and each refusal is shown by the schedule beside it, which delivers signals so and has at most so many steps, and some error counts.
+pub record HasSampleReport (input : List ℕ) (samples : Samples) (x : Excuses) (what : Printed) (output : Written) : Type 0 where
+  pub program : ModuleTree
+  pub module_text : SpellsModule input program
+  pub findings : Findings
+  pub found : AreOfSamples (flags_in samples.flags) samples.delivery (program_of program) samples.depth samples.runs findings
+  pub errors : (f : Finding) → IsAmong f findings.errors → (is_error (flags_in samples.flags) f.identity ≡ true) × IsShownBeside samples.delivery (program_of program) samples.depth f
+  pub refusals : (f : Finding) → IsAmong f findings.refusals → (is_refusal f.identity ≡ true) × IsShownBeside samples.delivery (program_of program) samples.depth f
+  pub one_counts : (f : Finding) × IsAmong f findings.errors × (counts (flags_in samples.flags) x f.identity ≡ true)
+  pub got : Got output (text_of_samples what samples (program_of program) x findings)
+
 -- the output got the lines of the events of the one run of the schedule in this word
 pub record HasTranscript (input word : List ℕ) (output : Written) : Type 0 where
   pub program : ModuleTree
@@ -180,6 +194,12 @@ AllPromptMeansAllPrompt = (r : ProgramRun) (options : Options) (x : Excuses) (wh
 -- The report is exact of prompt schedules: where it ends with status 0 or 1, it lists the errors and refusals that prompt schedules of at most so many steps show, and no others, each once, with the least prompt schedule that shows it.
 abbrev pub PromptReportIsExact : Type 0
 PromptReportIsExact = (r : ProgramRun) (options : Options) (x : Excuses) (what : Printed) → IsExplore r.words options x what → delivery_by options.search ≡ AtOnce → (r.status ≡ 0) ⊎ (r.status ≡ 1) → HasExactReport AtOnce r.input options x what r.output
+
+-- ---- of random schedules
+
+-- What a sample reports is shown: where a run of `sample` ends with status 1, its report is of what as many whole schedules show as it was asked for, each error and each refusal of it is shown by the schedule beside it, which has at most so many steps and delivers signals so, and some error counts. Nothing is said of other schedules, and it never ends with status 0.
+abbrev pub SampleIsShown : Type 0
+SampleIsShown = (r : ProgramRun) (samples : Samples) (x : Excuses) (what : Printed) → IsSample r.words samples x what → (r.status ≡ 0 → ⊥) × (r.status ≡ 1 → HasSampleReport r.input samples x what r.output)
 
 -- ---- of all
 

@@ -26,10 +26,10 @@ use tree_findings::Options;
 /// report to the sink, which is flushed at the end: each error, and each table call that is refused, that some schedule of
 /// at most so many steps shows, with the least schedule of a node that shows it, or by states of all that do. Where that is asked for, the report is explained:
 /// the lines of its schedule come below each, and it says whether the result is about all schedules, since none is
-/// longer than the depth. Where that is asked for, the cover of the tree follows a report without errors: the tree is
-/// gone through once more, and each line is written as its node is visited. As many threads search as
-/// the options say; their number does not change what is written of a complete exploration. The observer is informed of
-/// the work. Nothing is written before the search has ended.
+/// longer than the depth; or it is written as Erlang terms, one a line, which hold as much. Where that is asked for, the
+/// cover of the tree follows a report without errors: the tree is gone through once more, and each line is written as its
+/// node is visited. As many threads search as the options say; their number does not change what is written of a complete
+/// exploration. The observer is informed of the work. Nothing is written before the search has ended.
 ///
 /// # Errors
 ///

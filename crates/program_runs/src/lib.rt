@@ -1,6 +1,6 @@
 // What the program does between its words and its exit status: it reads a module, replays a schedule of it, explores
-// all of them up to a depth or those of a job, lists jobs, puts reports together, or checks a cover, and writes what happened, or
-// why it was refused.
+// all of them up to a depth or those of a job, follows random ones, lists jobs, puts reports together, or checks a cover, and
+// writes what happened, or why it was refused.
 #![tactic(auto)]
 
 pub mod check;
@@ -14,6 +14,7 @@ pub mod print_fault;
 mod printing;
 pub mod program;
 pub mod replay;
+pub mod sample;
 mod searching;
 pub mod theorem;
 pub mod verdict;
@@ -29,5 +30,6 @@ pub use merge::run_merge;
 pub use program::{WORDS_REFUSED, run, run_to_exit};
 pub use program_words::{NAME, Printed, Words, read_words};
 pub use replay::run_replay;
+pub use sample::run_sample;
 pub use verdict::{RunFault, Verdict, status};
 pub use world_replay::ReplayFault;

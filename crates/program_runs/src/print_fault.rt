@@ -8,7 +8,7 @@ use tree_covers::WriteCoverFault;
 /// Why what an exploration prints was not written to its end. A beginning of it was.
 #[derive(Clone, Copy, Debug, PartialEq, Eq)]
 pub enum PrintFault {
-    /// There was no memory to explain the report to its end.
+    /// There was no memory to explain the report to its end, in text or in terms.
     ReportCutOff,
     /// There was no memory for the whole cover, which follows the report.
     CoverCutOff,

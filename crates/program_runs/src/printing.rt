@@ -1,8 +1,8 @@
 // What an exploration prints: its report and, where that is asked for and no error was found, the cover of the tree.
-ghost use Rattle.std.specs.Prelude.{◌≡◌, true, false, OnOk};
+ghost use Rattle.std.specs.Prelude.{◌≡◌, ℕ, List, Option, true, false, OnOk};
 ghost use Rattle.tree_excuses.specs.Excuses.{counted, excuses_in};
-ghost use Rattle.program_runs.specs.Explored.{complete_verdict, form_found, has_cover, print_found, verdict_of};
-ghost use Rattle.program_runs.specs.Printing.{IsPrinted};
+ghost use Rattle.program_runs.specs.Explored.{complete_verdict, explains, form_found, has_cover, print_found, text_found, verdict_of};
+ghost use Rattle.program_runs.specs.Printing.{IsPrinted, Print};
 ghost use Rattle.program_runs.specs.inside.Forms.{IsReportWritten};
 ghost use Rattle.report_text.specs.ReportText.{text_of_report};
 ghost use Rattle.term_core.specs.Stream.{Writes};
@@ -14,6 +14,7 @@ use crate::watched::Watched;
 use core_tree::Module;
 use program_words::Printed;
 use report_explained::write_explained_report;
+use report_terms::write_terms_report;
 use report_text::{Visited, write_report};
 use search_crew::Observer;
 use std::alloc::Global;
@@ -22,7 +23,7 @@ use tree_covers::write_cover;
 use tree_excuses::{Excuses, Standing};
 use tree_findings::{FindingList, Outcome};
 
-// Writes the report, explained where that is asked for.
+// Writes the report: as terms where that is asked for, and else as text.
 fn write_form<W: Sink>(
     alloc: Global,
     program: &Module,
@@ -33,7 +34,35 @@ fn write_form<W: Sink>(
     sink: &mut W,
 ) -> Result<(), PrintFault>
     requires { W.has_failed sink.old ≡ false }
-    ensures { IsReportWritten printed.explained (form_found printed program.now depth (excuses_in excuses.now) found.now) (W.contents sink.old) (W.contents sink.new) (W.has_failed sink.new) result }
+    ensures { IsReportWritten (explains printed) (form_found printed program.now depth (excuses_in excuses.now) found.now) (W.contents sink.old) (W.contents sink.new) (W.has_failed sink.new) result }
+{
+    if printed.terms {
+        write_terms_report(
+            alloc,
+            program,
+            found.visited,
+            depth,
+            excuses,
+            &found.outcome,
+            sink,
+        )?;
+        return Ok(());
+    }
+    write_text(alloc, program, depth, excuses, printed, found, sink)
+}
+
+// Writes the report as text, explained where that is asked for.
+fn write_text<W: Sink>(
+    alloc: Global,
+    program: &Module,
+    depth: u64,
+    excuses: &Excuses,
+    printed: Printed,
+    found: &Explored,
+    sink: &mut W,
+) -> Result<(), PrintFault>
+    requires { W.has_failed sink.old ≡ false }
+    ensures { IsReportWritten printed.explained (text_found printed program.now depth (excuses_in excuses.now) found.now) (W.contents sink.old) (W.contents sink.new) (W.has_failed sink.new) result }
 {
     if printed.explained {
         write_explained_report(
@@ -106,6 +135,19 @@ pub(crate) fn print_and_flush<O: Observer, W: Sink>(
     let printing = print(
         alloc, program, depth, excuses, printed, found, observer, sink,
     );
+    flush_printed(printing, sink)
+}
+
+/// Flushes the sink after a printing that ended so, unless the sink has failed. Where the flush fails, the end is `Write`,
+/// else that of the printing.
+pub(crate) fn flush_printed<W: Sink>(
+    printing: Result<(), PrintFault>,
+    sink: &mut W,
+) -> Result<(), PrintFault>
+    ensures written { (p : Print) (start : Option (List ℕ)) → IsPrinted p start (W.contents sink.old) (W.has_failed sink.old) printing
+        → IsPrinted p start (W.contents sink.new) (W.has_failed sink.new) result }
+    ensures flushed { W.has_failed sink.new ≡ false → W.is_flushed sink.new ≡ true }
+{
     if sink.failed() {
         return printing;
     }

@@ -15,6 +15,7 @@ use crate::job::run_job;
 use crate::jobs::run_jobs;
 use crate::merge::run_merge;
 use crate::replay::run_replay;
+use crate::sample::run_sample;
 use crate::verdict::{RunFault, Verdict, status};
 use clap::Error;
 use clap::error::ErrorKind;
@@ -79,11 +80,11 @@ pub fn run_to_exit<
 }
 
 /// Does what the words of a command line ask for, the first of which is the program's name, and gives the exit status:
-/// replays a schedule in the module that the input has, or explores its schedules or those of a job, or lists jobs, or
-/// puts together the reports that the input has instead, or checks the cover that follows the module, writes the
-/// transcript, the report or the answer to the output and flushes that, and reports a refusal by its line on the third
-/// stream, which it does not flush. The observer is informed of the work of an exploration or a check. Where the words
-/// are refused, with status 64, the third stream gets the parser's text, and the output nothing.
+/// replays a schedule in the module that the input has, or explores its schedules or those of a job, or follows random
+/// ones, or lists jobs, or puts together the reports that the input has instead, or checks the cover that follows the
+/// module, writes the transcript, the report or the answer to the output and flushes that, and reports a refusal by its
+/// line on the third stream, which it does not flush. The observer is informed of the work of an exploration or a check.
+/// Where the words are refused, with status 64, the third stream gets the parser's text, and the output nothing.
 pub fn run<T: Threads + Wait + Sync, S: AsStr, R: Source, W: Sink, E: Sink, O: Observer + Sync>(
     rt: &T,
     alloc: Global,
@@ -159,6 +160,9 @@ fn run_asked<T: Threads + Wait + Sync, R: Source, O: Observer + Sync, W: Sink>(
         }
         Words::Check(depth, flags, excuses) => {
             run_check(alloc, input, *depth, *flags, excuses, observer, output)
+        }
+        Words::Sample(samples, excuses, printed) => {
+            run_sample(alloc, input, samples, excuses, *printed, output)
         }
     }
 }

@@ -19,9 +19,9 @@ pub enum Verdict {
     Done,
     /// All nodes were visited, and none shows an error.
     Clean,
-    /// All nodes were visited, and some show errors.
+    /// All nodes were visited, or random schedules were followed, and some show errors.
     Errors,
-    /// Not all nodes were visited.
+    /// Not all nodes were visited, or random schedules show no error that counts: others may.
     Incomplete,
 }
 
@@ -38,7 +38,7 @@ pub enum RunFault {
     NotEnabled(usize),
     /// There was no memory to replay a schedule to its end. A beginning of the lines was written.
     ReplayCutOff,
-    /// The search was not begun.
+    /// The search was not begun, or there was no memory for random schedules.
     Explore(SearchFault),
     /// The cover that came with the module was refused.
     Cover(CoverFault),
@@ -46,7 +46,7 @@ pub enum RunFault {
     Job(JobFault),
     /// A report was refused, or there was no memory for what the reports result in.
     Report(ReportFault),
-    /// There was no memory to explain a report to its end. A beginning of the report was written.
+    /// There was no memory to explain a report to its end, in text or in terms. A beginning of the report was written.
     ReportCutOff,
     /// There was no memory to write a cover to its end. The report, and a beginning of the cover, were written.
     CoverCutOff,
@@ -165,9 +165,10 @@ impl From<WriteFault> for RunFault {
     }
 }
 
-/// The exit status of a run: 0 where it was done, the cover is good, or no error was found, 1 where it visited all nodes and found errors, 2
-/// where what it was given was refused, 3 where there was no memory, nodes were left or the search has no outcome, and 4
-/// where its output could not be written.
+/// The exit status of a run: 0 where it was done, the cover is good, or all nodes were visited and no error was found, 1
+/// where all nodes were visited or random schedules were followed and errors were found, 2 where what it was given was
+/// refused, 3 where there was no memory, nodes were left, random schedules show nothing or the search has no outcome, and
+/// 4 where its output could not be written.
 pub fn status(outcome: &Result<Verdict, RunFault>) -> u8
     ensures { result ≡ status_of outcome.now }
 {

@@ -1,20 +1,20 @@
 -- What the parser makes of the words of a command that has options: its depth and its flags.
-use Rattle.std.proofs.Common.{◌≡◌, ◌∙◌, ◌||◌, ℕ, ◌+◌, ◌<◌, ◌≤◌, ◌^◌, Bool, true, false, List, [], ◌∷◌, Option, Some, None, cond, codes, option_map, refl, sym, ap, subst, arith}
-use Rattle.std.specs.Fmt.{decimal}
+use Rattle.std.proofs.Common.{◌≡◌, ◌∙◌, ◌||◌, ℕ, ◌+◌, ◌<◌, ◌≤◌, ◌^◌, Bool, true, false, List, [], ◌∷◌, length, Option, Some, None, cond, codes, option_map, refl, sym, ap, subst, arith}
+use Rattle.std.specs.Fmt.{decimal, digits}
 use Rattle.std.specs.List.{count_by, list_any}
-use Rattle.std.specs.Prelude.{slice_get}
+use Rattle.std.specs.Prelude.{option_and_then, slice_get}
 use Rattle.std.proofs.lemmas.List.Sums.{sum_by-cons}
 use Rattle.clap.specs.Words.{Row, Text, fault_of, one_of, subcommand_of}
 use Rattle.clap.specs.declared.parser.matches.ValueSource.TheVariants.{CommandLine, DefaultValue}
 use Rattle.world_identities.specs.declared.flags.Flags.{Flags}
-use Rattle.program_words.specs.Words.{Given, depths_of, is_allow_deadlock, is_strict_access, words_of_all}
-use Rattle.program_words.specs.inside.CommandLine.{Level, checking, command_line, exploring, listing, merging, name_of, splitting}
-use Rattle.program_words.specs.inside.Found.{AreFlagsOf, ReadsFlag, ReadsNumber, schedule_in}
+use Rattle.program_words.specs.Words.{Given, IsGivenOr, depths_of, format, formats_of, is_allow_deadlock, is_idle_servers, is_strict_access, words_of_all}
+use Rattle.program_words.specs.inside.CommandLine.{Level, checking, command_line, exploring, listing, merging, name_of, sampling, splitting}
+use Rattle.program_words.specs.inside.Found.{AreFlagsOf, ReadsFlag, ReadsNumber, format_in, schedule_in}
 use Rattle.program_words.proofs.Levels.{HasPlace, level_passes, line_enters, line_passes, rows_left}
 use Rattle.program_words.proofs.Numbers.{decimal_is_number, decimal_value}
-use Rattle.program_words.proofs.Once.{AreOnce, once_are_new}
+use Rattle.program_words.proofs.Once.{AreOnce, Each, once_are_new}
 use Rattle.program_words.proofs.Options.{AreLawful}
-use Rattle.program_words.proofs.Rows.{allow_deadlock_left, allow_deadlock_row, depth_left, depth_row, given_row, put_all, row_at, row_or, row_with, strict_access_left, strict_access_row, text_of_row, with_defaults}
+use Rattle.program_words.proofs.Rows.{allow_deadlock_left, allow_deadlock_row, depth_left, depth_row, format_row, given_row, idle_servers_left, idle_servers_row, put_all, row_at, row_of, row_or, row_with, strict_access_left, strict_access_row, text_of_row, with_defaults}
 
 -- the words of a command with its options, each once, except for `--normal`, and in its range
 pub record IsAsked (level : Level) (words : List Text) (given : List Given) (steps : ℕ) (flags : Flags) : Type 0 where
@@ -23,6 +23,7 @@ pub record IsAsked (level : Level) (words : List Text) (given : List Given) (ste
   pub depth : depths_of given ≡ steps ∷ []
   pub allow_deadlock : count_by is_allow_deadlock given ≡ cond flags.allow_deadlock 1 0
   pub strict_access : count_by is_strict_access given ≡ cond flags.strict_access 1 0
+  pub idle_servers : count_by is_idle_servers given ≡ cond flags.idle_servers 1 0
   pub once : AreOnce given
   pub lawful : AreLawful given level
   pub place : ℕ
@@ -50,6 +51,7 @@ pub asked_has_no_schedule : (level : Level) (words : List Text) (given : List Gi
     → schedule_in (subcommand_of command_line words) ≡ None
 asked_has_no_schedule exploring words given steps flags asks = ap schedule_in (asked_enters exploring words given steps flags asks)
 asked_has_no_schedule checking words given steps flags asks = ap schedule_in (asked_enters checking words given steps flags asks)
+asked_has_no_schedule sampling words given steps flags asks = ap schedule_in (asked_enters sampling words given steps flags asks)
 asked_has_no_schedule (splitting listing) words given steps flags asks = ap schedule_in (asked_enters (splitting listing) words given steps flags asks)
 asked_has_no_schedule (splitting merging) words given steps flags asks = ap schedule_in (asked_enters (splitting merging) words given steps flags asks)
 
@@ -124,9 +126,42 @@ flags_read level words given steps flags asks found read =
     (allow_deadlock_left level rows) (given_row (codes "allow-deadlock") given refl ∙ allow_deadlock_row given) read.allow_deadlock in
     let access : found.strict_access ≡ flags.strict_access = flag_read level (codes "strict-access") is_strict_access given flags.strict_access found.strict_access asks.strict_access
     (strict_access_left level rows) (given_row (codes "strict-access") given refl ∙ strict_access_row given) read.strict_access in
-    (λ i. record { allow_deadlock = deadlock i; strict_access = access i })
+    let idle : found.idle_servers ≡ flags.idle_servers = flag_read level (codes "idle-servers") is_idle_servers given flags.idle_servers found.idle_servers asks.idle_servers
+    (idle_servers_left level rows) (given_row (codes "idle-servers") given refl ∙ idle_servers_row given) read.idle_servers in
+    (λ i. record { allow_deadlock = deadlock i; strict_access = access i; idle_servers = idle i })
 
 -- ---- options that are given once or not at all
+
+pub given_once : (default n : ℕ) (counts : List ℕ) → IsGivenOr default counts n → length counts ≤ 1
+given_once default n [] is = omega arith
+given_once default n (m ∷ []) is = omega arith
+given_once default n (m ∷ (k ∷ rest)) is = absurd is
+
+-- what holds of the number holds of each one that is given
+pub given_each : (P : ℕ → Type 0) (default n : ℕ) (counts : List ℕ) → IsGivenOr default counts n → P n → Each P counts
+given_each P default n [] is holds = tt
+given_each P default n (m ∷ []) is holds = (subst P is holds, tt)
+given_each P default n (m ∷ (k ∷ rest)) is holds = absurd is
+
+pub one_digit : codes "1" ≡ decimal 1
+unfolding digits
+one_digit = refl
+
+-- a number that is given, or its default
+pub number_text : (id text : Text) (default n : ℕ) (rows : List Row) (counts : List ℕ) → text ≡ decimal default → IsGivenOr default counts n
+    → row_at id rows ≡ row_or id text (option_map (λ n. row_with CommandLine id (decimal n)) (slice_get counts 0)) → one_of id rows ≡ Some (decimal n)
+number_text id text default n rows [] spelled is row = text_of_row id text DefaultValue rows row ∙ ap Some (spelled ∙ ap decimal (sym is))
+number_text id text default n rows (m ∷ []) spelled is row = text_of_row id (decimal m) CommandLine rows row ∙ ap (λ k. Some (decimal k)) (sym is)
+number_text id text default n rows (m ∷ (k ∷ rest)) spelled is row = absurd is
+
+-- a format that is given; it has no default
+pub format_given : (level : Level) (given : List Given) → row_at (codes "format") (rows_of_given level given) ≡ row_at (codes "format") (put_all [] given)
+    → format_in (rows_of_given level given) ≡ slice_get (formats_of given) 0
+format_given level given left = ap (option_and_then (λ (r : Row). slice_get r.values 0)) (left ∙ given_row (codes "format") given refl ∙ format_row given) ∙ by (slice_get (formats_of given) 0)
+  where
+    by : (o : Option Text) → option_and_then (λ (r : Row). slice_get r.values 0) (option_map (λ text. row_of (format text)) o) ≡ o
+    by None = refl
+    by (Some text) = refl
 
 pub at_most_once : (n : ℕ) (flag : Bool) → n ≡ cond flag 1 0 → n ≤ 1
 at_most_once n true is = omega arith

@@ -25,6 +25,9 @@ module _ (words : List Text) (given : List Given) (steps : ℕ) (flags : Flags) 
     jobs = omega (arith, ap length says.no_job);
     states = omega (arith, says.no_states);
     at_once = omega (arith, says.no_at_once);
+    runs = omega (arith, ap length says.no_runs);
+    seeds = omega (arith, ap length says.no_seed);
+    formats = omega (arith, ap length says.no_format);
   }
 
   -- the options of a check, each once, except for `--normal`, and in its range
@@ -35,12 +38,14 @@ module _ (words : List Text) (given : List Given) (steps : ℕ) (flags : Flags) 
     depth = says.depth;
     allow_deadlock = says.allow_deadlock;
     strict_access = says.strict_access;
+    idle_servers = says.idle_servers;
     once = record {
       depths = omega (arith, ap length says.depth);
       nodes = omega (arith, ap length says.no_nodes);
       workers = omega (arith, ap length says.no_workers);
       allow_deadlock = at_most_once _ flags.allow_deadlock says.allow_deadlock;
       main_deadlock = says.main_deadlock;
+      idle_servers = at_most_once _ flags.idle_servers says.idle_servers;
       strict_access = at_most_once _ flags.strict_access says.strict_access;
       explain = omega (arith, says.no_explain);
       cover = omega (arith, says.no_cover);
@@ -48,6 +53,9 @@ module _ (words : List Text) (given : List Given) (steps : ℕ) (flags : Flags) 
       jobs = omega (arith, ap length says.no_job);
       states = omega (arith, says.no_states);
       at_once = omega (arith, says.no_at_once);
+      runs = omega (arith, ap length says.no_runs);
+      seeds = omega (arith, ap length says.no_seed);
+      formats = omega (arith, ap length says.no_format);
     };
     lawful = check_lawful_by given (subst (Each (λ n. n ≤ 400)) (sym says.depth) (says.in_range, tt)) (omega (arith, ap length says.no_at)) none says.normal;
     place = 0;

@@ -1,55 +1,32 @@
 -- What the program makes of the words of an exploration.
-use Rattle.std.proofs.Common.{◌≡◌, ◌∙◌, ◌⊎◌, ℕ, ◌≤◌, Bool, true, false, List, [], ◌∷◌, length, Option, Some, None, cond, codes, option_map, refl, sym, ap, subst, inl, inr, arith}
+use Rattle.std.proofs.Common.{◌≡◌, ◌∙◌, ◌⊎◌, ℕ, ◌≤◌, Bool, true, false, List, [], length, Option, Some, None, cond, codes, option_map, refl, sym, ap, subst, inl, inr, arith}
 use Rattle.std.specs.Fmt.{decimal, digits}
 use Rattle.std.specs.List.{count_by}
 use Rattle.std.specs.Prelude.{MatchBool, option_and_then, slice_get}
 use Rattle.std.specs.Str.{bytes_eq}
 use Rattle.std.proofs.lemmas.Slice.Eq.{bytes_eq-Decides}
 use Rattle.clap.specs.Words.{Row, Text, fault_of, first_of, one_of, subcommand_of}
-use Rattle.clap.specs.declared.parser.matches.ValueSource.TheVariants.{CommandLine, DefaultValue}
 use Rattle.world_identities.specs.declared.flags.Flags.{Flags}
 use Rattle.tree_findings.specs.declared.options.Options.{Options}
 use Rattle.tree_findings.specs.declared.options.Search.{Search}
 use Rattle.tree_findings.specs.declared.options.Search.TheVariants.{ByTree, ByStates}
 use Rattle.tree_schedules.specs.declared.delivery.Delivery.TheVariants.{AnyTime, AtOnce}
 use Rattle.program_words.specs.declared.words.Printed.{Printed}
-use Rattle.program_words.specs.Words.{AreInRange, AreWordsOfExplore, AsksSearch, Given, IsGivenOr, is_at_once, is_by_states, is_cover, is_explain, is_states, job, jobs_of, nodes_of, workers_of}
+use Rattle.program_words.specs.Words.{AreInRange, AreWordsOfExplore, AsksSearch, Given, IsGivenOr, formats_of, is_at_once, is_by_states, is_cover, is_explain, is_states, job, jobs_of, nodes_of, workers_of}
 use Rattle.program_words.specs.inside.CommandLine.{command_line, exploring}
-use Rattle.program_words.specs.inside.Found.{AreOptionsIn, AreOptionsOf, AreRead, IsCheckOf, IsSearchOf, ReadsNumber, is_prompt, job_in, schedule_in}
-use Rattle.program_words.proofs.Asked.{IsAsked, asked_enters, asked_has_no_schedule, asked_passes, at_most_once, depth_is_read, depth_read, flag_read, flags_read, number_not_read, number_read, rows_of_given}
+use Rattle.program_words.specs.inside.Found.{AreOptionsIn, AreOptionsOf, AreRead, IsCheckOf, IsSearchOf, ReadsNumber, asks_terms, format_in, is_prompt, job_in, schedule_in}
+use Rattle.program_words.proofs.Asked.{IsAsked, asked_enters, asked_has_no_schedule, asked_passes, at_most_once, depth_is_read, depth_read, flag_read, flags_read, format_given, given_each, given_once, number_not_read, number_read, number_text, one_digit, rows_of_given}
 use Rattle.program_words.proofs.Entered.{entered_rows, number_fits}
+use Rattle.program_words.proofs.Formats.{format_asks, format_once, format_plain}
 use Rattle.program_words.proofs.Once.{Each, lawful_by}
 use Rattle.program_words.proofs.Ranges.{depth_fits, nodes_fits, workers_fits}
-use Rattle.program_words.proofs.Rows.{at_once_left, at_once_row, cover_left, cover_row, explain_left, explain_row, given_row, job_left, job_row, nodes_left, nodes_row, put_all, row_at, row_of, row_or, row_with, states_left, states_row, text_of_row, workers_left, workers_row}
-
--- ---- the options of an exploration, each once and in its range
-
-given_once : (default n : ℕ) (counts : List ℕ) → IsGivenOr default counts n → length counts ≤ 1
-given_once default n [] is = omega arith
-given_once default n (m ∷ []) is = omega arith
-given_once default n (m ∷ (k ∷ rest)) is = absurd is
-
-given_lawful : (high default n : ℕ) (counts : List ℕ) → IsGivenOr default counts n → 1 ≤ n → n ≤ high → Each (λ m. (1 ≤ m) × (m ≤ high)) counts
-given_lawful high default n [] is least most = tt
-given_lawful high default n (m ∷ []) is least most = ((subst (λ k. 1 ≤ k) is least, subst (λ k. k ≤ high) is most), tt)
-given_lawful high default n (m ∷ (k ∷ rest)) is least most = absurd is
+use Rattle.program_words.proofs.Rows.{at_once_left, at_once_row, cover_left, cover_row, explain_left, explain_row, format_left, given_row, job_left, job_row, nodes_left, nodes_row, put_all, row_of, row_or, states_left, states_row, workers_left, workers_row}
 
 -- ---- the texts of its numbers
 
 million : codes "1000000" ≡ decimal 1000000
 unfolding digits
 million = refl
-
-one_digit : codes "1" ≡ decimal 1
-unfolding digits
-one_digit = refl
-
--- a number that is given, or its default
-number_text : (id text : Text) (default n : ℕ) (rows : List Row) (counts : List ℕ) → text ≡ decimal default → IsGivenOr default counts n
-    → row_at id rows ≡ row_or id text (option_map (λ n. row_with CommandLine id (decimal n)) (slice_get counts 0)) → one_of id rows ≡ Some (decimal n)
-number_text id text default n rows [] spelled is row = text_of_row id text DefaultValue rows row ∙ ap Some (spelled ∙ ap decimal (sym is))
-number_text id text default n rows (m ∷ []) spelled is row = text_of_row id (decimal m) CommandLine rows row ∙ ap (λ k. Some (decimal k)) (sym is)
-number_text id text default n rows (m ∷ (k ∷ rest)) spelled is row = absurd is
 
 nodes_text : (given : List Given) (n : ℕ) → IsGivenOr 1000000 (nodes_of given) n → one_of (codes "nodes") (rows_of_given exploring given) ≡ Some (decimal n)
 nodes_text given n is =
@@ -69,6 +46,11 @@ job_given given = ap (option_and_then (λ (r : Row). slice_get r.values 0)) (job
     by : (o : Option Text) → option_and_then (λ (r : Row). slice_get r.values 0) (option_map (λ line. row_of (job line)) o) ≡ o
     by None = refl
     by (Some line) = refl
+
+-- ---- its format
+
+pub explore_format : (given : List Given) → format_in (rows_of_given exploring given) ≡ slice_get (formats_of given) 0
+explore_format given = format_given exploring given (format_left (put_all [] given))
 
 -- ---- its search
 
@@ -103,12 +85,14 @@ module _ (words : List Text) (given : List Given) (options : Options) (printed :
     depth = says.depth;
     allow_deadlock = says.allow_deadlock;
     strict_access = says.strict_access;
+    idle_servers = says.idle_servers;
     once = record {
       depths = omega (arith, ap length says.depth);
       nodes = given_once 1000000 options.nodes (nodes_of given) says.nodes;
       workers = given_once 1 options.workers (workers_of given) says.workers;
       allow_deadlock = at_most_once _ options.flags.allow_deadlock says.allow_deadlock;
       main_deadlock = says.main_deadlock;
+      idle_servers = at_most_once _ options.flags.idle_servers says.idle_servers;
       strict_access = at_most_once _ options.flags.strict_access says.strict_access;
       explain = at_most_once _ printed.explained says.explain;
       cover = at_most_once _ printed.cover says.cover;
@@ -116,11 +100,14 @@ module _ (words : List Text) (given : List Given) (options : Options) (printed :
       jobs = says.job;
       states = (search_once _ _ options.search says.search).0;
       at_once = (search_once _ _ options.search says.search).1;
+      runs = omega (arith, ap length says.no_runs);
+      seeds = omega (arith, ap length says.no_seed);
+      formats = format_once (formats_of given) printed.terms says.format;
     };
     lawful = lawful_by given (subst (Each (λ n. n ≤ 400)) (sym says.depth) (says.in_range.depth, tt))
-        (given_lawful 10000000 1000000 options.nodes (nodes_of given) says.nodes says.in_range.least_nodes says.in_range.most_nodes)
-        (given_lawful 16 1 options.workers (workers_of given) says.workers says.in_range.some_workers says.in_range.most_workers)
-        (omega (arith, ap length says.no_at)) says.normal says.line;
+        (given_each (λ m. (1 ≤ m) × (m ≤ 10000000)) 1000000 options.nodes (nodes_of given) says.nodes (says.in_range.least_nodes, says.in_range.most_nodes))
+        (given_each (λ m. (1 ≤ m) × (m ≤ 16)) 1 options.workers (workers_of given) says.workers (says.in_range.some_workers, says.in_range.most_workers))
+        (omega (arith, ap length says.no_at), omega (arith, ap length says.no_runs), omega (arith, ap length says.no_seed)) says.normal says.line (format_plain (formats_of given) printed.terms says.format);
     place = 0;
     has_place = tt;
     in_range = says.in_range.depth;
@@ -187,7 +174,8 @@ module _ (words : List Text) (given : List Given) (options : Options) (printed :
       (explain_left rows) (given_row (codes "explain") given refl ∙ explain_row given) read.prints.explained in
       let cover : prints.cover ≡ printed.cover = flag_read exploring (codes "cover") is_cover given printed.cover prints.cover says.cover
       (cover_left rows) (given_row (codes "cover") given refl ∙ cover_row given) read.prints.cover in
-      (λ i. record { explained = explained i; cover = cover i })
+      let terms : prints.terms ≡ printed.terms = read.prints.terms ∙ ap asks_terms (explore_format given) ∙ format_asks (formats_of given) printed.terms says.format in
+      (λ i. record { explained = explained i; cover = cover i; terms = terms i })
 
   -- the options that are found are those that the words ask for
   pub explore_reads : (read : Options × Printed) → AreOptionsOf (subcommand_of command_line words) (Some read) → (read.0 ≡ options) × (read.1 ≡ printed)

@@ -13,7 +13,7 @@ use Rattle.clap.specs.declared.parser.matches.Found.{Found}
 use Rattle.clap.specs.declared.parser.matches.SubCommand.{SubCommand}
 use Rattle.clap.proofs.WalkLemmas.{one_text-rows}
 use Rattle.program_words.specs.declared.command_line.Split.{Split}
-use Rattle.program_words.specs.inside.Found.{IsSplitIn, IsSplitOf, ReadsFlag, ReadsNumber}
+use Rattle.program_words.specs.inside.Found.{IsSplitIn, IsSplitOf, ReadsFlag, ReadsNumber, rows_in}
 
 module _ {Z : Type 0} where
   named : (o : Option (Box SubCommand Z)) → option_map (λ p. p.0) (subcommand_rows o) ≡ option_map (λ b. (out-SubCommand (box_value b)).name.now) o
@@ -26,6 +26,11 @@ both_parts (Some p) name rows e f =
     let first : p.0 ≡ name = cc in
     let second : p.1 ≡ rows = cc in
     (λ i. Some (first i, second i))
+
+-- the rows of the subcommand that was found
+pub rows_found : (o : Option (Text × List Row)) (rows : List Row) → Some rows ≡ option_map (λ p. p.1) o → rows ≡ rows_in o
+rows_found None rows e = cc
+rows_found (Some p) rows e = cc
 
 -- the subcommand of this name and rows was found
 pub found_rows : (m : ArgMatches) (name : Text) (rows : List Row) → subcommand_name_of m ≡ Some name → option_map (λ p. p.1) (subcommand_rows (out-ArgMatches m).subcommand) ≡ Some rows

@@ -14,7 +14,7 @@ use Rattle.clap.specs.declared.error.kind.ErrorKind.TheVariants.{DisplayHelp, Mi
 use Rattle.clap.proofs.FaultLemmas.{stopped_fault}
 use Rattle.clap.proofs.OnLiterals.{clap_on_literals}
 use Rattle.program_words.specs.Words.{Given, at, ats_of, depth, depths_of, words_of_all}
-use Rattle.program_words.specs.inside.CommandLine.{Level, at_rule, built_of, checking, command_line, depth_rule, exploring, flag_rule, job_rule, listing, merging, name_of, nodes_rule, normal_rule, splitting, workers_rule}
+use Rattle.program_words.specs.inside.CommandLine.{Level, at_rule, built_of, checking, command_line, depth_rule, exploring, flag_rule, format_rule, job_rule, listing, merging, name_of, nodes_rule, normal_rule, runs_rule, sampling, seed_rule, splitting, workers_rule}
 use Rattle.program_words.proofs.Options.{AreLawful, AreNew, IsReady, both_none, options_pass, options_ready}
 use Rattle.program_words.proofs.Rows.{at_left, at_option_row, depth_left, depth_row, given_row, put_all, row_of, with_defaults}
 
@@ -36,52 +36,84 @@ defaults_pass exploring rows =
     let three = with_default two (filled workers_rule) in
     let four = with_default three (filled (flag_rule (codes "allow-deadlock"))) in
     let five = with_default four (filled (flag_rule (codes "main-deadlock"))) in
-    let six = with_default five (filled normal_rule) in
-    let seven = with_default six (filled (flag_rule (codes "strict-access"))) in
-    let eight = with_default seven (filled (flag_rule (codes "explain"))) in
-    let nine = with_default eight (filled (flag_rule (codes "cover"))) in
-    let ten = with_default nine (filled job_rule) in
-    let eleven = with_default ten (filled (flag_rule (codes "states"))) in
-    let twelve = with_default eleven (filled (flag_rule (codes "at-once"))) in
+    let six = with_default five (filled (flag_rule (codes "idle-servers"))) in
+    let seven = with_default six (filled normal_rule) in
+    let eight = with_default seven (filled (flag_rule (codes "strict-access"))) in
+    let nine = with_default eight (filled (flag_rule (codes "explain"))) in
+    let ten = with_default nine (filled (flag_rule (codes "cover"))) in
+    let eleven = with_default ten (filled job_rule) in
+    let twelve = with_default eleven (filled (flag_rule (codes "states"))) in
+    let thirteen = with_default twelve (filled (flag_rule (codes "at-once"))) in
+    let fourteen = with_default thirteen (filled format_rule) in
     both_none _ _ (no_default_fault (has_row (codes "depth") rows) [])
     (both_none _ _ (no_fault (has_row (codes "nodes") one || false))
     (both_none _ _ (no_fault (has_row (codes "workers") two || false))
     (both_none _ _ (no_fault (has_row (codes "allow-deadlock") three || false))
     (both_none _ _ (no_fault (has_row (codes "main-deadlock") four || false))
-    (both_none _ _ (no_default_fault (has_row (codes "normal") five) [])
-    (both_none _ _ (no_fault (has_row (codes "strict-access") six || false))
-    (both_none _ _ (no_fault (has_row (codes "explain") seven || false))
-    (both_none _ _ (no_fault (has_row (codes "cover") eight || false))
-    (both_none _ _ (no_default_fault (has_row (codes "job") nine) [])
-    (both_none _ _ (no_fault (has_row (codes "states") ten || false))
-    (both_none _ _ (no_fault (has_row (codes "at-once") eleven || false))
-    (both_none _ _ (no_default_fault (has_row (codes "help") twelve) (DisplayHelp ∷ [])) refl))))))))))))
+    (both_none _ _ (no_fault (has_row (codes "idle-servers") five || false))
+    (both_none _ _ (no_default_fault (has_row (codes "normal") six) [])
+    (both_none _ _ (no_fault (has_row (codes "strict-access") seven || false))
+    (both_none _ _ (no_fault (has_row (codes "explain") eight || false))
+    (both_none _ _ (no_fault (has_row (codes "cover") nine || false))
+    (both_none _ _ (no_default_fault (has_row (codes "job") ten) [])
+    (both_none _ _ (no_fault (has_row (codes "states") eleven || false))
+    (both_none _ _ (no_fault (has_row (codes "at-once") twelve || false))
+    (both_none _ _ (no_default_fault (has_row (codes "format") thirteen) [])
+    (both_none _ _ (no_default_fault (has_row (codes "help") fourteen) (DisplayHelp ∷ [])) refl))))))))))))))
 defaults_pass checking rows =
     let one = with_default rows (filled depth_rule) in
     let two = with_default one (filled (flag_rule (codes "allow-deadlock"))) in
     let three = with_default two (filled (flag_rule (codes "main-deadlock"))) in
-    let four = with_default three (filled normal_rule) in
-    let five = with_default four (filled (flag_rule (codes "strict-access"))) in
+    let four = with_default three (filled (flag_rule (codes "idle-servers"))) in
+    let five = with_default four (filled normal_rule) in
+    let six = with_default five (filled (flag_rule (codes "strict-access"))) in
     both_none _ _ (no_default_fault (has_row (codes "depth") rows) [])
     (both_none _ _ (no_fault (has_row (codes "allow-deadlock") one || false))
     (both_none _ _ (no_fault (has_row (codes "main-deadlock") two || false))
-    (both_none _ _ (no_default_fault (has_row (codes "normal") three) [])
-    (both_none _ _ (no_fault (has_row (codes "strict-access") four || false))
-    (both_none _ _ (no_default_fault (has_row (codes "help") five) (DisplayHelp ∷ [])) refl)))))
+    (both_none _ _ (no_fault (has_row (codes "idle-servers") three || false))
+    (both_none _ _ (no_default_fault (has_row (codes "normal") four) [])
+    (both_none _ _ (no_fault (has_row (codes "strict-access") five || false))
+    (both_none _ _ (no_default_fault (has_row (codes "help") six) (DisplayHelp ∷ [])) refl))))))
+defaults_pass sampling rows =
+    let one = with_default rows (filled depth_rule) in
+    let two = with_default one (filled runs_rule) in
+    let three = with_default two (filled seed_rule) in
+    let four = with_default three (filled (flag_rule (codes "allow-deadlock"))) in
+    let five = with_default four (filled (flag_rule (codes "main-deadlock"))) in
+    let six = with_default five (filled (flag_rule (codes "idle-servers"))) in
+    let seven = with_default six (filled normal_rule) in
+    let eight = with_default seven (filled (flag_rule (codes "strict-access"))) in
+    let nine = with_default eight (filled (flag_rule (codes "explain"))) in
+    let ten = with_default nine (filled (flag_rule (codes "at-once"))) in
+    let eleven = with_default ten (filled format_rule) in
+    both_none _ _ (no_default_fault (has_row (codes "depth") rows) [])
+    (both_none _ _ (no_fault (has_row (codes "runs") one || false))
+    (both_none _ _ (no_fault (has_row (codes "seed") two || false))
+    (both_none _ _ (no_fault (has_row (codes "allow-deadlock") three || false))
+    (both_none _ _ (no_fault (has_row (codes "main-deadlock") four || false))
+    (both_none _ _ (no_fault (has_row (codes "idle-servers") five || false))
+    (both_none _ _ (no_default_fault (has_row (codes "normal") six) [])
+    (both_none _ _ (no_fault (has_row (codes "strict-access") seven || false))
+    (both_none _ _ (no_fault (has_row (codes "explain") eight || false))
+    (both_none _ _ (no_fault (has_row (codes "at-once") nine || false))
+    (both_none _ _ (no_default_fault (has_row (codes "format") ten) [])
+    (both_none _ _ (no_default_fault (has_row (codes "help") eleven) (DisplayHelp ∷ [])) refl)))))))))))
 defaults_pass (splitting which) rows =
     let one = with_default rows (filled depth_rule) in
     let two = with_default one (filled at_rule) in
     let three = with_default two (filled (flag_rule (codes "allow-deadlock"))) in
     let four = with_default three (filled (flag_rule (codes "main-deadlock"))) in
-    let five = with_default four (filled normal_rule) in
-    let six = with_default five (filled (flag_rule (codes "strict-access"))) in
+    let five = with_default four (filled (flag_rule (codes "idle-servers"))) in
+    let six = with_default five (filled normal_rule) in
+    let seven = with_default six (filled (flag_rule (codes "strict-access"))) in
     both_none _ _ (no_default_fault (has_row (codes "depth") rows) [])
     (both_none _ _ (no_default_fault (has_row (codes "at") one) [])
     (both_none _ _ (no_fault (has_row (codes "allow-deadlock") two || false))
     (both_none _ _ (no_fault (has_row (codes "main-deadlock") three || false))
-    (both_none _ _ (no_default_fault (has_row (codes "normal") four) [])
-    (both_none _ _ (no_fault (has_row (codes "strict-access") five || false))
-    (both_none _ _ (no_default_fault (has_row (codes "help") six) (DisplayHelp ∷ [])) refl))))))
+    (both_none _ _ (no_fault (has_row (codes "idle-servers") four || false))
+    (both_none _ _ (no_default_fault (has_row (codes "normal") five) [])
+    (both_none _ _ (no_fault (has_row (codes "strict-access") six || false))
+    (both_none _ _ (no_default_fault (has_row (codes "help") seven) (DisplayHelp ∷ [])) refl)))))))
 
 -- ---- the level of the command
 
@@ -93,6 +125,7 @@ IsThere level rows = Unit {0}
 checks : (level : Level) (rows : List Row) → is_given (codes "depth") rows ≡ true → IsThere level rows → check_fault (built_of level) rows false ≡ []
 checks exploring rows is there = ap (λ b. cond (not b || false) (MissingRequiredArgument ∷ []) []) is
 checks checking rows is there = ap (λ b. cond (not b || false) (MissingRequiredArgument ∷ []) []) is
+checks sampling rows is there = ap (λ b. cond (not b || false) (MissingRequiredArgument ∷ []) []) is
 checks (splitting which) rows is there = ap₂ (λ b c. cond (not b || (not c || false)) (MissingRequiredArgument ∷ []) []) is there
 
 -- the words of a level have no fault where none of its four steps has one
@@ -105,6 +138,9 @@ all_pass exploring words walks settles is there =
 all_pass checking words walks settles is there =
     both_none _ _ walks (both_none _ _ settles (both_none _ _ (defaults_pass checking (settled (built_of checking).rules (walk (built_of checking).rules [] nothing_held words).held).rows)
     (checks checking (rows_after (built_of checking).rules [] words) is there)))
+all_pass sampling words walks settles is there =
+    both_none _ _ walks (both_none _ _ settles (both_none _ _ (defaults_pass sampling (settled (built_of sampling).rules (walk (built_of sampling).rules [] nothing_held words).held).rows)
+    (checks sampling (rows_after (built_of sampling).rules [] words) is there)))
 all_pass (splitting which) words walks settles is there =
     both_none _ _ walks (both_none _ _ settles (both_none _ _ (defaults_pass (splitting which) (settled (built_of (splitting which)).rules (walk (built_of (splitting which)).rules [] nothing_held words).held).rows)
     (checks (splitting which) (rows_after (built_of (splitting which)).rules [] words) is there)))
@@ -121,6 +157,7 @@ HasPlace level given place = Unit {0}
 is_there : (level : Level) (given : List Given) (place : ℕ) → HasPlace level given place → IsThere level (with_defaults level (put_all [] given))
 is_there exploring given place has = tt
 is_there checking given place has = tt
+is_there sampling given place has = tt
 is_there (splitting which) given place has =
     ap (λ o. option_map_or (λ r. explicit_source r.source) o false)
     (at_left which (put_all [] given) ∙ given_row (codes "at") given refl ∙ at_option_row given ∙ ap (λ l. option_map (λ n. row_of (at n)) (slice_get l 0)) has)
@@ -161,6 +198,7 @@ line_walk : (level : Level) (words : List Text) → walk (built command_line).to
 unfolding clap_on_literals
 line_walk exploring words = stopped_walk (built command_line).top.rules (names_of (built command_line)) (walk_from nothing_held) (codes "explore") [] words
 line_walk checking words = stopped_walk (built command_line).top.rules (names_of (built command_line)) (walk_from nothing_held) (codes "check") [] words
+line_walk sampling words = stopped_walk (built command_line).top.rules (names_of (built command_line)) (walk_from nothing_held) (codes "sample") [] words
 line_walk (splitting listing) words = stopped_walk (built command_line).top.rules (names_of (built command_line)) (walk_from nothing_held) (codes "jobs") [] words
 line_walk (splitting merging) words = stopped_walk (built command_line).top.rules (names_of (built command_line)) (walk_from nothing_held) (codes "merge") [] words
 
@@ -168,6 +206,7 @@ line_walk (splitting merging) words = stopped_walk (built command_line).top.rule
 pub line_enters : (level : Level) (name : Text) (words : List Text) → subcommand_of command_line (name ∷ name_of level ∷ words) ≡ Some (name_of level, rows_after (built_of level).rules [] words)
 line_enters exploring name words = ap (λ (w : Walk). entered (built command_line) w.stopped) (line_walk exploring words)
 line_enters checking name words = ap (λ (w : Walk). entered (built command_line) w.stopped) (line_walk checking words)
+line_enters sampling name words = ap (λ (w : Walk). entered (built command_line) w.stopped) (line_walk sampling words)
 line_enters (splitting listing) name words = ap (λ (w : Walk). entered (built command_line) w.stopped) (line_walk (splitting listing) words)
 line_enters (splitting merging) name words = ap (λ (w : Walk). entered (built command_line) w.stopped) (line_walk (splitting merging) words)
 
@@ -175,6 +214,7 @@ word_passes : (level : Level) (words : List Text) → walk_fault (built command_
 unfolding clap_on_literals
 word_passes exploring words = stopped_fault (built command_line).top (names_of (built command_line)) (walk_from nothing_held) (codes "explore", []) words
 word_passes checking words = stopped_fault (built command_line).top (names_of (built command_line)) (walk_from nothing_held) (codes "check", []) words
+word_passes sampling words = stopped_fault (built command_line).top (names_of (built command_line)) (walk_from nothing_held) (codes "sample", []) words
 word_passes (splitting listing) words = stopped_fault (built command_line).top (names_of (built command_line)) (walk_from nothing_held) (codes "jobs", []) words
 word_passes (splitting merging) words = stopped_fault (built command_line).top (names_of (built command_line)) (walk_from nothing_held) (codes "merge", []) words
 
@@ -194,6 +234,9 @@ line_passes exploring name words none =
 line_passes checking name words none =
     let whole : fault_of command_line (name ∷ codes "check" ∷ words) ≡ fault_at checking words (ended checking words) = ap (fault_at checking words) (line_walk checking words) in
     whole ∙ both_none (walk_fault (built command_line).top (names_of (built command_line)) (walk_from nothing_held) (codes "check" ∷ words)) _ (word_passes checking words) (both_none _ [] none refl)
+line_passes sampling name words none =
+    let whole : fault_of command_line (name ∷ codes "sample" ∷ words) ≡ fault_at sampling words (ended sampling words) = ap (fault_at sampling words) (line_walk sampling words) in
+    whole ∙ both_none (walk_fault (built command_line).top (names_of (built command_line)) (walk_from nothing_held) (codes "sample" ∷ words)) _ (word_passes sampling words) (both_none _ [] none refl)
 line_passes (splitting listing) name words none =
     let whole : fault_of command_line (name ∷ codes "jobs" ∷ words) ≡ fault_at (splitting listing) words (ended (splitting listing) words) = ap (fault_at (splitting listing) words) (line_walk (splitting listing) words) in
     whole ∙ both_none (walk_fault (built command_line).top (names_of (built command_line)) (walk_from nothing_held) (codes "jobs" ∷ words)) _ (word_passes (splitting listing) words) (both_none _ [] none refl)

@@ -4,6 +4,7 @@ pub mod CommandLine
 pub mod Entered
 pub mod Excusing
 pub mod Explored
+pub mod Formats
 pub mod Found
 pub mod Kept
 pub mod Levels
@@ -15,6 +16,7 @@ pub mod Ranges
 pub mod Reading
 pub mod Replayed
 pub mod Rows
+pub mod Sampled
 pub mod Splitting
 pub mod Texts
 pub mod Unread

@@ -13,11 +13,12 @@ use Rattle.clap.specs.Walk.{Held, Names, Row, Step, Text, Walk, after_flag, afte
 use Rattle.clap.specs.declared.error.kind.ErrorKind.TheVariants.{InvalidSubcommand, UnknownArgument}
 use Rattle.world_identities.specs.declared.flags.Flags.{Flags}
 use Rattle.tree_findings.specs.declared.options.Options.{Options}
+use Rattle.search_samples.specs.declared.sample.Samples.{Samples}
 use Rattle.program_words.specs.declared.command_line.Split.{Split}
 use Rattle.program_words.specs.declared.words.Printed.{Printed}
 use Rattle.program_words.specs.Words.{IsNamed}
 use Rattle.program_words.specs.inside.CommandLine.{command_line}
-use Rattle.program_words.specs.inside.Found.{AreOptionsIn, AreOptionsOf, IsCheckIn, IsCheckOf, IsSplitIn, IsSplitOf, schedule_in}
+use Rattle.program_words.specs.inside.Found.{AreOptionsIn, AreOptionsOf, AreSamplesIn, AreSamplesOf, IsCheckIn, IsCheckOf, IsSplitIn, IsSplitOf, schedule_in}
 use Rattle.program_words.proofs.Levels.{stopped_walk}
 use Rattle.program_words.proofs.Kept.{both_pass}
 
@@ -128,32 +129,37 @@ module _ (w : Text) (p : Text × List Row) where
       → entered (built command_line) (fold (walked top.rules commands) (first_step (Some (codes "merge"))) rest).stopped ≡ Some p → w ≡ p.0
   named_merge rest is enters = sym (same_word (codes "merge") w is) ∙ sym (entered_name (codes "merge") rest _ refl refl enters)
 
-  abbrev among : Bool → Bool → Bool → Bool → Bool → Bool → Option Text
-  among replay explore check jobs merge help =
+  named_sample : (rest : List Text) → (bytes_eq (codes "sample") w || false) ≡ true
+      → entered (built command_line) (fold (walked top.rules commands) (first_step (Some (codes "sample"))) rest).stopped ≡ Some p → w ≡ p.0
+  named_sample rest is enters = sym (same_word (codes "sample") w is) ∙ sym (entered_name (codes "sample") rest _ refl refl enters)
+
+  abbrev among : Bool → Bool → Bool → Bool → Bool → Bool → Bool → Option Text
+  among replay explore check jobs merge sample help =
       option_map (λ (s : Text × List Text). s.0)
       (cond replay (Some (codes "replay", [])) (cond explore (Some (codes "explore", [])) (cond check (Some (codes "check", []))
-      (cond jobs (Some (codes "jobs", [])) (cond merge (Some (codes "merge", [])) (cond help (Some (codes "help", [])) None))))))
+      (cond jobs (Some (codes "jobs", [])) (cond merge (Some (codes "merge", [])) (cond sample (Some (codes "sample", [])) (cond help (Some (codes "help", [])) None)))))))
 
-  word_by : (replay explore check jobs merge help : Bool) (rest : List Text) → (bytes_eq (codes "replay") w || false) ≡ replay → (bytes_eq (codes "explore") w || false) ≡ explore
-      → (bytes_eq (codes "check") w || false) ≡ check → (bytes_eq (codes "jobs") w || false) ≡ jobs → (bytes_eq (codes "merge") w || false) ≡ merge
-      → or_else (other_fault top (among replay explore check jobs merge help) w nothing_held)
-      (step_fault top 1 (met (among replay explore check jobs merge help)).0 (met (among replay explore check jobs merge help)).1) ≡ []
-      → walk_fault top commands (first_step (among replay explore check jobs merge help)) rest ≡ []
-      → entered (built command_line) (fold (walked top.rules commands) (first_step (among replay explore check jobs merge help)) rest).stopped ≡ Some p → w ≡ p.0
-  word_by true explore check jobs merge help rest r e c j m none later enters = named_replay rest r enters
-  word_by false true check jobs merge help rest r e c j m none later enters = named_explore rest e enters
-  word_by false false true jobs merge help rest r e c j m none later enters = named_check rest c enters
-  word_by false false false true merge help rest r e c j m none later enters = named_jobs rest j enters
-  word_by false false false false true help rest r e c j m none later enters = named_merge rest m enters
-  word_by false false false false false true rest r e c j m none later enters = cc
-  word_by false false false false false false rest r e c j m none later enters = absurd (no_command (bytes_eq w (45 ∷ 45 ∷ [])) rest none later enters)
+  word_by : (replay explore check jobs merge sample help : Bool) (rest : List Text) → (bytes_eq (codes "replay") w || false) ≡ replay → (bytes_eq (codes "explore") w || false) ≡ explore
+      → (bytes_eq (codes "check") w || false) ≡ check → (bytes_eq (codes "jobs") w || false) ≡ jobs → (bytes_eq (codes "merge") w || false) ≡ merge → (bytes_eq (codes "sample") w || false) ≡ sample
+      → or_else (other_fault top (among replay explore check jobs merge sample help) w nothing_held)
+      (step_fault top 1 (met (among replay explore check jobs merge sample help)).0 (met (among replay explore check jobs merge sample help)).1) ≡ []
+      → walk_fault top commands (first_step (among replay explore check jobs merge sample help)) rest ≡ []
+      → entered (built command_line) (fold (walked top.rules commands) (first_step (among replay explore check jobs merge sample help)) rest).stopped ≡ Some p → w ≡ p.0
+  word_by true explore check jobs merge sample help rest r e c j m s none later enters = named_replay rest r enters
+  word_by false true check jobs merge sample help rest r e c j m s none later enters = named_explore rest e enters
+  word_by false false true jobs merge sample help rest r e c j m s none later enters = named_check rest c enters
+  word_by false false false true merge sample help rest r e c j m s none later enters = named_jobs rest j enters
+  word_by false false false false true sample help rest r e c j m s none later enters = named_merge rest m enters
+  word_by false false false false false true help rest r e c j m s none later enters = named_sample rest s enters
+  word_by false false false false false false true rest r e c j m s none later enters = cc
+  word_by false false false false false false false rest r e c j m s none later enters = absurd (no_command (bytes_eq w (45 ∷ 45 ∷ [])) rest none later enters)
 
   word_is : (rest : List Text) → walk_fault top commands (walk_from nothing_held) (w ∷ rest) ≡ []
       → entered (built command_line) (walk top.rules commands nothing_held (w ∷ rest)).stopped ≡ Some p → w ≡ p.0
   unfolding walk_fault walked
   word_is rest none enters =
       let parts = both_pass (turn_fault top commands (walk_from nothing_held) w) _ none in
-      word_by _ _ _ _ _ (bytes_eq (codes "help") w || false) rest refl refl refl refl refl parts.0 parts.1 enters
+      word_by _ _ _ _ _ _ (bytes_eq (codes "help") w || false) rest refl refl refl refl refl refl parts.0 parts.1 enters
 
 -- a subcommand is entered by its name, which is the first word
 pub named_first : (words : List Text) (p : Text × List Row) → fault_of command_line words ≡ [] → subcommand_of command_line words ≡ Some p → IsNamed words p.0
@@ -163,7 +169,7 @@ named_first (name ∷ (w ∷ rest)) p none enters =
     let first = (both_pass (walk_fault top commands (walk_from nothing_held) (w ∷ rest)) _ none).0 in
     record { name = name; rest = rest; words_are = ap (λ x. name ∷ (x ∷ rest)) (word_is w p rest first enters) }
 
--- a schedule is found of the words of `replay` alone, options of those of `explore`, a check of those of `check`, and a split of those of its command
+-- a schedule is found of the words of `replay` alone, options of those of `explore`, a check of those of `check`, a split of those of its command, and random schedules of those of `sample`
 pub replay_named : (words : List Text) (schedule : Text) → fault_of command_line words ≡ [] → schedule_in (subcommand_of command_line words) ≡ Some schedule → IsNamed words (codes "replay")
 replay_named words schedule none found = by (subcommand_of command_line words) refl found
   where
@@ -207,3 +213,14 @@ split_named command words read none found = by (subcommand_of command_line words
         at : (b : Bool) → bytes_eq p.0 command ≡ b → MatchBool b (IsSplitIn p.1 (Some read)) (Some read ≡ None) → IsNamed words command
         at false is found = cc
         at true is found = subst (IsNamed words) ((bytes_eq-Decides p.0 command).0 is) (named_first words p none entered)
+
+pub sample_named : (words : List Text) (read : Samples × Printed) → fault_of command_line words ≡ [] → AreSamplesOf (subcommand_of command_line words) (Some read) → IsNamed words (codes "sample")
+sample_named words read none found = by (subcommand_of command_line words) refl found
+  where
+    by : (o : Option (Text × List Row)) → subcommand_of command_line words ≡ o → AreSamplesOf o (Some read) → IsNamed words (codes "sample")
+    by None entered found = cc
+    by (Some p) entered found = at (bytes_eq p.0 (codes "sample")) refl found
+      where
+        at : (b : Bool) → bytes_eq p.0 (codes "sample") ≡ b → MatchBool b (AreSamplesIn p.1 (Some read)) (Some read ≡ None) → IsNamed words (codes "sample")
+        at false is found = cc
+        at true is found = subst (IsNamed words) ((bytes_eq-Decides p.0 (codes "sample")).0 is) (named_first words p none entered)

@@ -16,7 +16,7 @@ use Rattle.clap.specs.declared.builder.value_parser.ValueParser.{ValueParser}
 use Rattle.clap.specs.declared.builder.value_parser.ValueParser.TheVariants.{Unsigned}
 use Rattle.clap.specs.declared.parser.matches.ValueSource.{ValueSource}
 use Rattle.clap.specs.declared.parser.matches.ValueSource.TheVariants.{CommandLine, DefaultValue}
-use Rattle.program_words.specs.inside.CommandLine.{Level, at_rule, built_of, check_built, checking, depth_rule, explore_built, exploring, flag_rule, job_rule, nodes_rule, normal_rule, split_built, split_name, splitting, workers_rule}
+use Rattle.program_words.specs.inside.CommandLine.{Level, at_rule, built_of, check_built, checking, depth_rule, explore_built, exploring, flag_rule, format_rule, job_rule, nodes_rule, normal_rule, runs_rule, sample_built, sampling, seed_rule, split_built, split_name, splitting, workers_rule}
 use Rattle.program_words.proofs.Kept.{both_pass, walk_leaves}
 
 -- values that are not at fault passed their parser
@@ -63,10 +63,17 @@ workers_built = filled workers_rule
 abbrev at_built : Rule
 at_built = filled at_rule
 
+abbrev runs_built : Rule
+runs_built = filled runs_rule
+
+abbrev seed_built : Rule
+seed_built = filled seed_rule
+
 -- the argument is none of the options that say what counts as an error
 record AreOthers (id : Text) : Type 0 where
   pub allow_deadlock : bytes_eq (codes "allow-deadlock") id ≡ false
   pub main_deadlock : bytes_eq (codes "main-deadlock") id ≡ false
+  pub idle_servers : bytes_eq (codes "idle-servers") id ≡ false
   pub normal : bytes_eq (codes "normal") id ≡ false
   pub strict_access : bytes_eq (codes "strict-access") id ≡ false
 
@@ -164,9 +171,9 @@ module _ (id : Text) (low high : ℕ) where
   each_use_fits : (values : List Text) (rows : List Row) → (use_fault false depth_built values rows ≡ [] → AllFit (used depth_built values rows))
       → (use_fault false nodes_built values rows ≡ [] → AllFit (used nodes_built values rows)) → (use_fault false workers_built values rows ≡ [] → AllFit (used workers_built values rows))
       → AreOthers id → bytes_eq (codes "explain") id ≡ false → bytes_eq (codes "cover") id ≡ false → bytes_eq (codes "job") id ≡ false → bytes_eq (codes "states") id ≡ false
-      → bytes_eq (codes "at-once") id ≡ false
+      → bytes_eq (codes "at-once") id ≡ false → bytes_eq (codes "format") id ≡ false
       → (p : Rule → Bool) (a : Rule) → find p explore_built.rules ≡ Some a → use_fault false a values rows ≡ [] → AllFit rows → AllFit (used a values rows)
-  each_use_fits values rows depth nodes workers others no_explain no_cover no_job no_states no_at_once p a found none fit = by (among p explore_built.rules a found)
+  each_use_fits values rows depth nodes workers others no_explain no_cover no_job no_states no_at_once no_format p a found none fit = by (among p explore_built.rules a found)
     where
       at : (x : Rule) → a ≡ x → (use_fault false x values rows ≡ [] → AllFit (used x values rows)) → AllFit (used a values rows)
       at x is kept = subst (λ y. use_fault false y values rows ≡ [] → AllFit (used y values rows)) (sym is) kept none
@@ -177,15 +184,17 @@ module _ (id : Text) (low high : ℕ) where
       by (inr (inr (inl is))) = at workers_built is workers
       by (inr (inr (inr (inl is)))) = at _ is (λ none. other_used_fits (codes "allow-deadlock") AsWritten _ rows others.allow_deadlock fit)
       by (inr (inr (inr (inr (inl is))))) = at _ is (λ none. other_used_fits (codes "main-deadlock") AsWritten _ rows others.main_deadlock fit)
-      by (inr (inr (inr (inr (inr (inl is)))))) = at _ is (λ none. others_fit (codes "normal") AsWritten CommandLine _ rows others.normal fit)
-      by (inr (inr (inr (inr (inr (inr (inl is))))))) = at _ is (λ none. other_used_fits (codes "strict-access") AsWritten _ rows others.strict_access fit)
-      by (inr (inr (inr (inr (inr (inr (inr (inl is)))))))) = at _ is (λ none. other_used_fits (codes "explain") AsWritten _ rows no_explain fit)
-      by (inr (inr (inr (inr (inr (inr (inr (inr (inl is))))))))) = at _ is (λ none. other_used_fits (codes "cover") AsWritten _ rows no_cover fit)
-      by (inr (inr (inr (inr (inr (inr (inr (inr (inr (inl is)))))))))) = at _ is (λ none. other_used_fits (codes "job") AsWritten _ rows no_job fit)
-      by (inr (inr (inr (inr (inr (inr (inr (inr (inr (inr (inl is))))))))))) = at _ is (λ none. other_used_fits (codes "states") AsWritten _ rows no_states fit)
-      by (inr (inr (inr (inr (inr (inr (inr (inr (inr (inr (inr (inl is)))))))))))) = at _ is (λ none. other_used_fits (codes "at-once") AsWritten _ rows no_at_once fit)
-      by (inr (inr (inr (inr (inr (inr (inr (inr (inr (inr (inr (inr (inl is))))))))))))) = at _ is (λ none. fit)
-      by (inr (inr (inr (inr (inr (inr (inr (inr (inr (inr (inr (inr (inr nothing))))))))))))) = absurd nothing
+      by (inr (inr (inr (inr (inr (inl is)))))) = at _ is (λ none. other_used_fits (codes "idle-servers") AsWritten _ rows others.idle_servers fit)
+      by (inr (inr (inr (inr (inr (inr (inl is))))))) = at _ is (λ none. others_fit (codes "normal") AsWritten CommandLine _ rows others.normal fit)
+      by (inr (inr (inr (inr (inr (inr (inr (inl is)))))))) = at _ is (λ none. other_used_fits (codes "strict-access") AsWritten _ rows others.strict_access fit)
+      by (inr (inr (inr (inr (inr (inr (inr (inr (inl is))))))))) = at _ is (λ none. other_used_fits (codes "explain") AsWritten _ rows no_explain fit)
+      by (inr (inr (inr (inr (inr (inr (inr (inr (inr (inl is)))))))))) = at _ is (λ none. other_used_fits (codes "cover") AsWritten _ rows no_cover fit)
+      by (inr (inr (inr (inr (inr (inr (inr (inr (inr (inr (inl is))))))))))) = at _ is (λ none. other_used_fits (codes "job") AsWritten _ rows no_job fit)
+      by (inr (inr (inr (inr (inr (inr (inr (inr (inr (inr (inr (inl is)))))))))))) = at _ is (λ none. other_used_fits (codes "states") AsWritten _ rows no_states fit)
+      by (inr (inr (inr (inr (inr (inr (inr (inr (inr (inr (inr (inr (inl is))))))))))))) = at _ is (λ none. other_used_fits (codes "at-once") AsWritten _ rows no_at_once fit)
+      by (inr (inr (inr (inr (inr (inr (inr (inr (inr (inr (inr (inr (inr (inl is)))))))))))))) = at _ is (λ none. other_used_fits (codes "format") AsWritten _ rows no_format fit)
+      by (inr (inr (inr (inr (inr (inr (inr (inr (inr (inr (inr (inr (inr (inr (inl is))))))))))))))) = at _ is (λ none. fit)
+      by (inr (inr (inr (inr (inr (inr (inr (inr (inr (inr (inr (inr (inr (inr (inr nothing))))))))))))))) = absurd nothing
 
   -- and so does each of `check`
   each_check_use_fits : (values : List Text) (rows : List Row) → (use_fault false depth_built values rows ≡ [] → AllFit (used depth_built values rows))
@@ -199,10 +208,11 @@ module _ (id : Text) (low high : ℕ) where
       by (inl is) = at depth_built is depth
       by (inr (inl is)) = at _ is (λ none. other_used_fits (codes "allow-deadlock") AsWritten _ rows others.allow_deadlock fit)
       by (inr (inr (inl is))) = at _ is (λ none. other_used_fits (codes "main-deadlock") AsWritten _ rows others.main_deadlock fit)
-      by (inr (inr (inr (inl is)))) = at _ is (λ none. others_fit (codes "normal") AsWritten CommandLine _ rows others.normal fit)
-      by (inr (inr (inr (inr (inl is))))) = at _ is (λ none. other_used_fits (codes "strict-access") AsWritten _ rows others.strict_access fit)
-      by (inr (inr (inr (inr (inr (inl is)))))) = at _ is (λ none. fit)
-      by (inr (inr (inr (inr (inr (inr nothing)))))) = absurd nothing
+      by (inr (inr (inr (inl is)))) = at _ is (λ none. other_used_fits (codes "idle-servers") AsWritten _ rows others.idle_servers fit)
+      by (inr (inr (inr (inr (inl is))))) = at _ is (λ none. others_fit (codes "normal") AsWritten CommandLine _ rows others.normal fit)
+      by (inr (inr (inr (inr (inr (inl is)))))) = at _ is (λ none. other_used_fits (codes "strict-access") AsWritten _ rows others.strict_access fit)
+      by (inr (inr (inr (inr (inr (inr (inl is))))))) = at _ is (λ none. fit)
+      by (inr (inr (inr (inr (inr (inr (inr nothing))))))) = absurd nothing
 
   -- and of a command that splits the tree
   each_split_use_fits : (name : Text) (values : List Text) (rows : List Row) → (use_fault false depth_built values rows ≡ [] → AllFit (used depth_built values rows))
@@ -218,10 +228,36 @@ module _ (id : Text) (low high : ℕ) where
       by (inr (inl is)) = at at_built is place
       by (inr (inr (inl is))) = at _ is (λ none. other_used_fits (codes "allow-deadlock") AsWritten _ rows others.allow_deadlock fit)
       by (inr (inr (inr (inl is)))) = at _ is (λ none. other_used_fits (codes "main-deadlock") AsWritten _ rows others.main_deadlock fit)
-      by (inr (inr (inr (inr (inl is))))) = at _ is (λ none. others_fit (codes "normal") AsWritten CommandLine _ rows others.normal fit)
-      by (inr (inr (inr (inr (inr (inl is)))))) = at _ is (λ none. other_used_fits (codes "strict-access") AsWritten _ rows others.strict_access fit)
-      by (inr (inr (inr (inr (inr (inr (inl is))))))) = at _ is (λ none. fit)
-      by (inr (inr (inr (inr (inr (inr (inr nothing))))))) = absurd nothing
+      by (inr (inr (inr (inr (inl is))))) = at _ is (λ none. other_used_fits (codes "idle-servers") AsWritten _ rows others.idle_servers fit)
+      by (inr (inr (inr (inr (inr (inl is)))))) = at _ is (λ none. others_fit (codes "normal") AsWritten CommandLine _ rows others.normal fit)
+      by (inr (inr (inr (inr (inr (inr (inl is))))))) = at _ is (λ none. other_used_fits (codes "strict-access") AsWritten _ rows others.strict_access fit)
+      by (inr (inr (inr (inr (inr (inr (inr (inl is)))))))) = at _ is (λ none. fit)
+      by (inr (inr (inr (inr (inr (inr (inr (inr nothing)))))))) = absurd nothing
+
+  -- and of `sample`
+  each_sample_use_fits : (values : List Text) (rows : List Row) → (use_fault false depth_built values rows ≡ [] → AllFit (used depth_built values rows))
+      → (use_fault false runs_built values rows ≡ [] → AllFit (used runs_built values rows)) → (use_fault false seed_built values rows ≡ [] → AllFit (used seed_built values rows))
+      → AreOthers id → bytes_eq (codes "explain") id ≡ false → bytes_eq (codes "at-once") id ≡ false → bytes_eq (codes "format") id ≡ false
+      → (p : Rule → Bool) (a : Rule) → find p sample_built.rules ≡ Some a → use_fault false a values rows ≡ [] → AllFit rows → AllFit (used a values rows)
+  each_sample_use_fits values rows depth runs seed others no_explain no_at_once no_format p a found none fit = by (among p sample_built.rules a found)
+    where
+      at : (x : Rule) → a ≡ x → (use_fault false x values rows ≡ [] → AllFit (used x values rows)) → AllFit (used a values rows)
+      at x is kept = subst (λ y. use_fault false y values rows ≡ [] → AllFit (used y values rows)) (sym is) kept none
+
+      by : Among a sample_built.rules → AllFit (used a values rows)
+      by (inl is) = at depth_built is depth
+      by (inr (inl is)) = at runs_built is runs
+      by (inr (inr (inl is))) = at seed_built is seed
+      by (inr (inr (inr (inl is)))) = at _ is (λ none. other_used_fits (codes "allow-deadlock") AsWritten _ rows others.allow_deadlock fit)
+      by (inr (inr (inr (inr (inl is))))) = at _ is (λ none. other_used_fits (codes "main-deadlock") AsWritten _ rows others.main_deadlock fit)
+      by (inr (inr (inr (inr (inr (inl is)))))) = at _ is (λ none. other_used_fits (codes "idle-servers") AsWritten _ rows others.idle_servers fit)
+      by (inr (inr (inr (inr (inr (inr (inl is))))))) = at _ is (λ none. others_fit (codes "normal") AsWritten CommandLine _ rows others.normal fit)
+      by (inr (inr (inr (inr (inr (inr (inr (inl is)))))))) = at _ is (λ none. other_used_fits (codes "strict-access") AsWritten _ rows others.strict_access fit)
+      by (inr (inr (inr (inr (inr (inr (inr (inr (inl is))))))))) = at _ is (λ none. other_used_fits (codes "explain") AsWritten _ rows no_explain fit)
+      by (inr (inr (inr (inr (inr (inr (inr (inr (inr (inl is)))))))))) = at _ is (λ none. other_used_fits (codes "at-once") AsWritten _ rows no_at_once fit)
+      by (inr (inr (inr (inr (inr (inr (inr (inr (inr (inr (inl is))))))))))) = at _ is (λ none. other_used_fits (codes "format") AsWritten _ rows no_format fit)
+      by (inr (inr (inr (inr (inr (inr (inr (inr (inr (inr (inr (inl is)))))))))))) = at _ is (λ none. fit)
+      by (inr (inr (inr (inr (inr (inr (inr (inr (inr (inr (inr (inr nothing)))))))))))) = absurd nothing
 
   -- and so does each default of `explore`
   defaults_fit : (rows : List Row) → ((rows : List Row) → AllFit rows → AllFit (with_values (codes "nodes") AsWritten DefaultValue (codes "1000000" ∷ []) rows))
@@ -234,14 +270,16 @@ module _ (id : Text) (low high : ℕ) where
       let three = kept_default workers_built _ (workers _) two in
       let four = flag_default (codes "allow-deadlock") _ others.allow_deadlock three in
       let five = flag_default (codes "main-deadlock") _ others.main_deadlock four in
-      let six = kept_default (filled normal_rule) _ (λ fit. fit) five in
-      let seven = flag_default (codes "strict-access") _ others.strict_access six in
-      let eight = flag_default (codes "explain") _ no_explain seven in
-      let nine = flag_default (codes "cover") _ no_cover eight in
-      let ten = kept_default (filled job_rule) _ (λ fit. fit) nine in
-      let eleven = flag_default (codes "states") _ no_states ten in
-      let twelve = flag_default (codes "at-once") _ no_at_once eleven in
-      kept_default (filled help_rule) _ (λ fit. fit) twelve
+      let six = flag_default (codes "idle-servers") _ others.idle_servers five in
+      let seven = kept_default (filled normal_rule) _ (λ fit. fit) six in
+      let eight = flag_default (codes "strict-access") _ others.strict_access seven in
+      let nine = flag_default (codes "explain") _ no_explain eight in
+      let ten = flag_default (codes "cover") _ no_cover nine in
+      let eleven = kept_default (filled job_rule) _ (λ fit. fit) ten in
+      let twelve = flag_default (codes "states") _ no_states eleven in
+      let thirteen = flag_default (codes "at-once") _ no_at_once twelve in
+      let fourteen = kept_default (filled format_rule) _ (λ fit. fit) thirteen in
+      kept_default (filled help_rule) _ (λ fit. fit) fourteen
 
   -- and of `check`
   check_defaults_fit : (rows : List Row) → AreOthers id → AllFit rows → AllFit (fold with_default rows check_built.rules)
@@ -249,9 +287,10 @@ module _ (id : Text) (low high : ℕ) where
       let one = kept_default depth_built rows (λ fit. fit) fit in
       let two = flag_default (codes "allow-deadlock") _ others.allow_deadlock one in
       let three = flag_default (codes "main-deadlock") _ others.main_deadlock two in
-      let four = kept_default (filled normal_rule) _ (λ fit. fit) three in
-      let five = flag_default (codes "strict-access") _ others.strict_access four in
-      kept_default (filled help_rule) _ (λ fit. fit) five
+      let four = flag_default (codes "idle-servers") _ others.idle_servers three in
+      let five = kept_default (filled normal_rule) _ (λ fit. fit) four in
+      let six = flag_default (codes "strict-access") _ others.strict_access five in
+      kept_default (filled help_rule) _ (λ fit. fit) six
 
   -- and of a command that splits the tree
   split_defaults_fit : (name : Text) (rows : List Row) → AreOthers id → AllFit rows → AllFit (fold with_default rows (split_built name).rules)
@@ -260,9 +299,28 @@ module _ (id : Text) (low high : ℕ) where
       let two = kept_default at_built _ (λ fit. fit) one in
       let three = flag_default (codes "allow-deadlock") _ others.allow_deadlock two in
       let four = flag_default (codes "main-deadlock") _ others.main_deadlock three in
-      let five = kept_default (filled normal_rule) _ (λ fit. fit) four in
-      let six = flag_default (codes "strict-access") _ others.strict_access five in
-      kept_default (filled help_rule) _ (λ fit. fit) six
+      let five = flag_default (codes "idle-servers") _ others.idle_servers four in
+      let six = kept_default (filled normal_rule) _ (λ fit. fit) five in
+      let seven = flag_default (codes "strict-access") _ others.strict_access six in
+      kept_default (filled help_rule) _ (λ fit. fit) seven
+
+  -- and of `sample`
+  sample_defaults_fit : (rows : List Row) → ((rows : List Row) → AllFit rows → AllFit (with_values (codes "runs") AsWritten DefaultValue (codes "1000" ∷ []) rows))
+      → ((rows : List Row) → AllFit rows → AllFit (with_values (codes "seed") AsWritten DefaultValue (codes "1" ∷ []) rows))
+      → AreOthers id → bytes_eq (codes "explain") id ≡ false → bytes_eq (codes "at-once") id ≡ false → AllFit rows → AllFit (fold with_default rows sample_built.rules)
+  sample_defaults_fit rows runs seed others no_explain no_at_once fit =
+      let one = kept_default depth_built rows (λ fit. fit) fit in
+      let two = kept_default runs_built _ (runs _) one in
+      let three = kept_default seed_built _ (seed _) two in
+      let four = flag_default (codes "allow-deadlock") _ others.allow_deadlock three in
+      let five = flag_default (codes "main-deadlock") _ others.main_deadlock four in
+      let six = flag_default (codes "idle-servers") _ others.idle_servers five in
+      let seven = kept_default (filled normal_rule) _ (λ fit. fit) six in
+      let eight = flag_default (codes "strict-access") _ others.strict_access seven in
+      let nine = flag_default (codes "explain") _ no_explain eight in
+      let ten = flag_default (codes "at-once") _ no_at_once nine in
+      let eleven = kept_default (filled format_rule) _ (λ fit. fit) ten in
+      kept_default (filled help_rule) _ (λ fit. fit) eleven
 
   -- what a walk without a fault leaves of an id
   left_fits : (s : Shape) (words : List Text) (text : Text)
@@ -275,13 +333,19 @@ module _ (id : Text) (low high : ℕ) where
       text_fits (rows_after s.rules [] words) text (defaults _ (walk_leaves s AllFit uses [] words nothing_held first.0 second.0 tt)) reads
 
 depth_apart : AreOthers (codes "depth")
-depth_apart = record { allow_deadlock = refl; main_deadlock = refl; normal = refl; strict_access = refl }
+depth_apart = record { allow_deadlock = refl; main_deadlock = refl; idle_servers = refl; normal = refl; strict_access = refl }
 
 nodes_apart : AreOthers (codes "nodes")
-nodes_apart = record { allow_deadlock = refl; main_deadlock = refl; normal = refl; strict_access = refl }
+nodes_apart = record { allow_deadlock = refl; main_deadlock = refl; idle_servers = refl; normal = refl; strict_access = refl }
 
 workers_apart : AreOthers (codes "workers")
-workers_apart = record { allow_deadlock = refl; main_deadlock = refl; normal = refl; strict_access = refl }
+workers_apart = record { allow_deadlock = refl; main_deadlock = refl; idle_servers = refl; normal = refl; strict_access = refl }
+
+runs_apart : AreOthers (codes "runs")
+runs_apart = record { allow_deadlock = refl; main_deadlock = refl; idle_servers = refl; normal = refl; strict_access = refl }
+
+seed_apart : AreOthers (codes "seed")
+seed_apart = record { allow_deadlock = refl; main_deadlock = refl; idle_servers = refl; normal = refl; strict_access = refl }
 
 -- where a command is not at fault, its depth is in its range
 pub depth_fits : (level : Level) (words : List Text) (text : Text) → level_fault (built_of level) [] nothing_held words false [] ≡ [] → one_of (codes "depth") (rows_after (built_of level).rules [] words) ≡ Some text
@@ -289,13 +353,19 @@ pub depth_fits : (level : Level) (words : List Text) (text : Text) → level_fau
 depth_fits exploring words text =
     left_fits (codes "depth") 0 400 explore_built words text
     (λ p a values rows found none fit. each_use_fits (codes "depth") 0 400 values rows (λ none. used_fits (codes "depth") 0 400 _ _ _ rows none fit)
-    (λ none. other_used_fits (codes "depth") 0 400 (codes "nodes") AsWritten _ rows refl fit) (λ none. other_used_fits (codes "depth") 0 400 (codes "workers") AsWritten _ rows refl fit) depth_apart refl refl refl refl refl p a found none fit)
+    (λ none. other_used_fits (codes "depth") 0 400 (codes "nodes") AsWritten _ rows refl fit) (λ none. other_used_fits (codes "depth") 0 400 (codes "workers") AsWritten _ rows refl fit) depth_apart refl refl refl refl refl refl p a found none fit)
     (λ rows fit. defaults_fit (codes "depth") 0 400 rows (λ rows fit. others_fit (codes "depth") 0 400 (codes "nodes") AsWritten DefaultValue _ rows refl fit)
     (λ rows fit. others_fit (codes "depth") 0 400 (codes "workers") AsWritten DefaultValue _ rows refl fit) depth_apart refl refl refl refl fit)
 depth_fits checking words text =
     left_fits (codes "depth") 0 400 check_built words text
     (λ p a values rows found none fit. each_check_use_fits (codes "depth") 0 400 values rows (λ none. used_fits (codes "depth") 0 400 _ _ _ rows none fit) depth_apart p a found none fit)
     (λ rows fit. check_defaults_fit (codes "depth") 0 400 rows depth_apart fit)
+depth_fits sampling words text =
+    left_fits (codes "depth") 0 400 sample_built words text
+    (λ p a values rows found none fit. each_sample_use_fits (codes "depth") 0 400 values rows (λ none. used_fits (codes "depth") 0 400 _ _ _ rows none fit)
+    (λ none. other_used_fits (codes "depth") 0 400 (codes "runs") AsWritten _ rows refl fit) (λ none. other_used_fits (codes "depth") 0 400 (codes "seed") AsWritten _ rows refl fit) depth_apart refl refl refl p a found none fit)
+    (λ rows fit. sample_defaults_fit (codes "depth") 0 400 rows (λ rows fit. others_fit (codes "depth") 0 400 (codes "runs") AsWritten DefaultValue _ rows refl fit)
+    (λ rows fit. others_fit (codes "depth") 0 400 (codes "seed") AsWritten DefaultValue _ rows refl fit) depth_apart refl refl fit)
 depth_fits (splitting which) words text =
     left_fits (codes "depth") 0 400 (split_built (split_name which)) words text
     (λ p a values rows found none fit. each_split_use_fits (codes "depth") 0 400 (split_name which) values rows (λ none. used_fits (codes "depth") 0 400 _ _ _ rows none fit)
@@ -308,7 +378,7 @@ pub nodes_fits : (words : List Text) (text : Text) → level_fault explore_built
 nodes_fits words text =
     left_fits (codes "nodes") 1 10000000 explore_built words text
     (λ p a values rows found none fit. each_use_fits (codes "nodes") 1 10000000 values rows (λ none. other_used_fits (codes "nodes") 1 10000000 (codes "depth") AsWritten _ rows refl fit)
-    (λ none. used_fits (codes "nodes") 1 10000000 _ _ _ rows none fit) (λ none. other_used_fits (codes "nodes") 1 10000000 (codes "workers") AsWritten _ rows refl fit) nodes_apart refl refl refl refl refl p a found none fit)
+    (λ none. used_fits (codes "nodes") 1 10000000 _ _ _ rows none fit) (λ none. other_used_fits (codes "nodes") 1 10000000 (codes "workers") AsWritten _ rows refl fit) nodes_apart refl refl refl refl refl refl p a found none fit)
     (λ rows fit. defaults_fit (codes "nodes") 1 10000000 rows (λ rows fit. own_fit (codes "nodes") 1 10000000 AsWritten DefaultValue _ rows refl refl fit)
     (λ rows fit. others_fit (codes "nodes") 1 10000000 (codes "workers") AsWritten DefaultValue _ rows refl fit) nodes_apart refl refl refl refl fit)
 
@@ -317,6 +387,25 @@ pub workers_fits : (words : List Text) (text : Text) → level_fault explore_bui
 workers_fits words text =
     left_fits (codes "workers") 1 16 explore_built words text
     (λ p a values rows found none fit. each_use_fits (codes "workers") 1 16 values rows (λ none. other_used_fits (codes "workers") 1 16 (codes "depth") AsWritten _ rows refl fit)
-    (λ none. other_used_fits (codes "workers") 1 16 (codes "nodes") AsWritten _ rows refl fit) (λ none. used_fits (codes "workers") 1 16 _ _ _ rows none fit) workers_apart refl refl refl refl refl p a found none fit)
+    (λ none. other_used_fits (codes "workers") 1 16 (codes "nodes") AsWritten _ rows refl fit) (λ none. used_fits (codes "workers") 1 16 _ _ _ rows none fit) workers_apart refl refl refl refl refl refl p a found none fit)
     (λ rows fit. defaults_fit (codes "workers") 1 16 rows (λ rows fit. others_fit (codes "workers") 1 16 (codes "nodes") AsWritten DefaultValue _ rows refl fit)
     (λ rows fit. own_fit (codes "workers") 1 16 AsWritten DefaultValue _ rows refl refl fit) workers_apart refl refl refl refl fit)
+
+-- and so are the number of random schedules and their seed
+pub runs_fits : (words : List Text) (text : Text) → level_fault sample_built [] nothing_held words false [] ≡ [] → one_of (codes "runs") (rows_after sample_built.rules [] words) ≡ Some text
+    → is_unsigned_in 1 1000000 text ≡ true
+runs_fits words text =
+    left_fits (codes "runs") 1 1000000 sample_built words text
+    (λ p a values rows found none fit. each_sample_use_fits (codes "runs") 1 1000000 values rows (λ none. other_used_fits (codes "runs") 1 1000000 (codes "depth") AsWritten _ rows refl fit)
+    (λ none. used_fits (codes "runs") 1 1000000 _ _ _ rows none fit) (λ none. other_used_fits (codes "runs") 1 1000000 (codes "seed") AsWritten _ rows refl fit) runs_apart refl refl refl p a found none fit)
+    (λ rows fit. sample_defaults_fit (codes "runs") 1 1000000 rows (λ rows fit. own_fit (codes "runs") 1 1000000 AsWritten DefaultValue _ rows refl refl fit)
+    (λ rows fit. others_fit (codes "runs") 1 1000000 (codes "seed") AsWritten DefaultValue _ rows refl fit) runs_apart refl refl fit)
+
+pub seed_fits : (words : List Text) (text : Text) → level_fault sample_built [] nothing_held words false [] ≡ [] → one_of (codes "seed") (rows_after sample_built.rules [] words) ≡ Some text
+    → is_unsigned_in 0 4294967295 text ≡ true
+seed_fits words text =
+    left_fits (codes "seed") 0 4294967295 sample_built words text
+    (λ p a values rows found none fit. each_sample_use_fits (codes "seed") 0 4294967295 values rows (λ none. other_used_fits (codes "seed") 0 4294967295 (codes "depth") AsWritten _ rows refl fit)
+    (λ none. other_used_fits (codes "seed") 0 4294967295 (codes "runs") AsWritten _ rows refl fit) (λ none. used_fits (codes "seed") 0 4294967295 _ _ _ rows none fit) seed_apart refl refl refl p a found none fit)
+    (λ rows fit. sample_defaults_fit (codes "seed") 0 4294967295 rows (λ rows fit. others_fit (codes "seed") 0 4294967295 (codes "runs") AsWritten DefaultValue _ rows refl fit)
+    (λ rows fit. own_fit (codes "seed") 0 4294967295 AsWritten DefaultValue _ rows refl refl fit) seed_apart refl refl fit)

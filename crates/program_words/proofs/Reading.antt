@@ -8,10 +8,11 @@ use Rattle.clap.specs.Values.{kind_of}
 use Rattle.clap.specs.Words.{App, Row, Text, fault_of, is_simple, is_simple_and_free, subcommand_of}
 use Rattle.clap.specs.declared.error.Error.{Error}
 use Rattle.clap.specs.declared.error.kind.ErrorKind.TheVariants.{OutOfMemory}
-use Rattle.program_words.specs.Words.{AreReadAs}
+use Rattle.program_words.specs.Words.{AreReadAs, report_alone}
+use Rattle.program_words.specs.declared.words.Printed.{Printed}
 use Rattle.program_words.specs.declared.words.Words.{Words}
 use Rattle.program_words.specs.inside.CommandLine.{command_line}
-use Rattle.program_words.specs.inside.Found.{AsksForOne, IsReadOf}
+use Rattle.program_words.specs.inside.Found.{AsksForOne, IsReadOf, is_unknown}
 use Rattle.program_words.proofs.Replayed.{line_is_free, line_is_simple}
 
 -- the parser's command is the program's, and says exactly what it makes of words
@@ -71,6 +72,28 @@ no_job_of_states true cover found word is none = absurd (by cover (sym (ap (λ (
     by : (b : Bool) → (b || true) ≡ false → ⊥
     by true e = cc
     by false e = cc
+
+-- ---- what is printed
+
+none_of_three : (a b c : Bool) → (a || (b || c)) ≡ false → (a ≡ false) × ((b ≡ false) × (c ≡ false))
+none_of_three true b c none = cc
+none_of_three false true c none = cc
+none_of_three false false c none = (refl, (refl, none))
+
+-- where no more is asked for, it is the report alone, as text
+pub alone : (printed : Printed) → (printed.explained || (printed.cover || printed.terms)) ≡ false → printed ≡ report_alone
+alone printed none =
+    let each = none_of_three printed.explained printed.cover printed.terms none in
+    let explained : printed.explained ≡ false = each.0 in
+    let cover : printed.cover ≡ false = each.1.0 in
+    let terms : printed.terms ≡ false = each.1.1 in
+    (λ i. record { explained = explained i; cover = cover i; terms = terms i })
+
+-- ---- a format
+
+-- what is said of the format that was found is said of the text in the rows
+pub format_said : (r said : Bool) (found : Option (Bor Text)) (o : Option Text) → option_map (λ w. w.now) found ≡ o → r ≡ is_unknown (option_map (λ w. w.now) found) → r ≡ said → is_unknown o ≡ said
+format_said r said found o of is told = sym (ap is_unknown of) ∙ sym is ∙ told
 
 -- ---- what is read of the command that was found
 

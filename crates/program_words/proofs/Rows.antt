@@ -12,8 +12,8 @@ use Rattle.clap.specs.declared.builder.value_parser.Reading.{Reading}
 use Rattle.clap.specs.declared.builder.value_parser.Reading.TheVariants.{AsWritten}
 use Rattle.clap.specs.declared.parser.matches.ValueSource.{ValueSource}
 use Rattle.clap.specs.declared.parser.matches.ValueSource.TheVariants.{CommandLine, DefaultValue}
-use Rattle.program_words.specs.Words.{Given, depth, nodes, workers, allow_deadlock, strict_access, explain, cover, main_deadlock, normal, at, job, states, at_once, depths_of, nodes_of, workers_of, texts_of, ats_of, jobs_of, is_allow_deadlock, is_main_deadlock, is_strict_access, is_explain, is_cover, is_states, is_at_once}
-use Rattle.program_words.specs.inside.CommandLine.{Level, Splitter, built_of, checking, exploring, splitting}
+use Rattle.program_words.specs.Words.{Given, depth, nodes, workers, allow_deadlock, strict_access, explain, cover, main_deadlock, idle_servers, normal, at, job, states, at_once, runs, seed, format, depths_of, nodes_of, workers_of, texts_of, ats_of, jobs_of, runs_of, seeds_of, formats_of, is_allow_deadlock, is_main_deadlock, is_idle_servers, is_strict_access, is_explain, is_cover, is_states, is_at_once}
+use Rattle.program_words.specs.inside.CommandLine.{Level, Splitter, built_of, checking, exploring, sampling, splitting}
 use Rattle.program_words.specs.inside.Found.{texts_in}
 
 -- the row of one value
@@ -34,6 +34,7 @@ id_of (nodes n) = codes "nodes"
 id_of (workers n) = codes "workers"
 id_of allow_deadlock = codes "allow-deadlock"
 id_of main_deadlock = codes "main-deadlock"
+id_of idle_servers = codes "idle-servers"
 id_of (normal text) = codes "normal"
 id_of strict_access = codes "strict-access"
 id_of explain = codes "explain"
@@ -42,6 +43,9 @@ id_of (at n) = codes "at"
 id_of (job line) = codes "job"
 id_of states = codes "states"
 id_of at_once = codes "at-once"
+id_of (runs n) = codes "runs"
+id_of (seed n) = codes "seed"
+id_of (format text) = codes "format"
 
 abbrev pub value_of : Given → Text
 value_of (depth n) = decimal n
@@ -49,6 +53,7 @@ value_of (nodes n) = decimal n
 value_of (workers n) = decimal n
 value_of allow_deadlock = codes "true"
 value_of main_deadlock = codes "true"
+value_of idle_servers = codes "true"
 value_of (normal text) = text
 value_of strict_access = codes "true"
 value_of explain = codes "true"
@@ -57,6 +62,9 @@ value_of (at n) = decimal n
 value_of (job line) = line
 value_of states = codes "true"
 value_of at_once = codes "true"
+value_of (runs n) = decimal n
+value_of (seed n) = decimal n
+value_of (format text) = text
 
 -- the row of an option that is given
 abbrev pub row_of : Given → Row
@@ -73,7 +81,7 @@ put_all rows (option ∷ rest) = put_all (put rows option) rest
 
 -- ---- a row more
 
-neither : (a b : Bool) → (a || b) ≡ false → (a ≡ false) × (b ≡ false)
+pub neither : (a b : Bool) → (a || b) ≡ false → (a ≡ false) × (b ≡ false)
 neither true b none = cc
 neither false b none = (refl, none)
 
@@ -155,6 +163,7 @@ put_apart id rows (nodes n) differs = row_at-more id rows (row_of (nodes n)) dif
 put_apart id rows (workers n) differs = row_at-more id rows (row_of (workers n)) differs
 put_apart id rows allow_deadlock differs = row_at-more id rows (row_of allow_deadlock) differs
 put_apart id rows main_deadlock differs = row_at-more id rows (row_of main_deadlock) differs
+put_apart id rows idle_servers differs = row_at-more id rows (row_of idle_servers) differs
 put_apart id rows strict_access differs = row_at-more id rows (row_of strict_access) differs
 put_apart id rows explain differs = row_at-more id rows (row_of explain) differs
 put_apart id rows cover differs = row_at-more id rows (row_of cover) differs
@@ -162,6 +171,9 @@ put_apart id rows (at n) differs = row_at-more id rows (row_of (at n)) differs
 put_apart id rows (job line) differs = row_at-more id rows (row_of (job line)) differs
 put_apart id rows states differs = row_at-more id rows (row_of states) differs
 put_apart id rows at_once differs = row_at-more id rows (row_of at_once) differs
+put_apart id rows (runs n) differs = row_at-more id rows (row_of (runs n)) differs
+put_apart id rows (seed n) differs = row_at-more id rows (row_of (seed n)) differs
+put_apart id rows (format text) differs = row_at-more id rows (row_of (format text)) differs
 
 put_row : (id : Text) (rows : List Row) (option : Given) → bytes_eq (codes "normal") id ≡ false → row_at id (put rows option) ≡ row_at id (rows ++ row_of option ∷ [])
 put_row id rows (normal text) differs =
@@ -171,6 +183,7 @@ put_row id rows (nodes n) differs = refl
 put_row id rows (workers n) differs = refl
 put_row id rows allow_deadlock differs = refl
 put_row id rows main_deadlock differs = refl
+put_row id rows idle_servers differs = refl
 put_row id rows strict_access differs = refl
 put_row id rows explain differs = refl
 put_row id rows cover differs = refl
@@ -178,6 +191,9 @@ put_row id rows (at n) differs = refl
 put_row id rows (job line) differs = refl
 put_row id rows states differs = refl
 put_row id rows at_once differs = refl
+put_row id rows (runs n) differs = refl
+put_row id rows (seed n) differs = refl
+put_row id rows (format text) differs = refl
 
 -- the row of an option that is not `--normal` is that of the first one
 put_rows : (id : Text) (rows : List Row) (given : List Given) → bytes_eq (codes "normal") id ≡ false → row_at id (put_all rows given) ≡ row_at id (rows ++ map row_of given)
@@ -221,6 +237,7 @@ put_texts rows (nodes n ∷ rest) = other_put rows (nodes n) rest refl (put_text
 put_texts rows (workers n ∷ rest) = other_put rows (workers n) rest refl (put_texts (put rows (workers n)) rest)
 put_texts rows (allow_deadlock ∷ rest) = other_put rows allow_deadlock rest refl (put_texts (put rows allow_deadlock) rest)
 put_texts rows (main_deadlock ∷ rest) = other_put rows main_deadlock rest refl (put_texts (put rows main_deadlock) rest)
+put_texts rows (idle_servers ∷ rest) = other_put rows idle_servers rest refl (put_texts (put rows idle_servers) rest)
 put_texts rows (strict_access ∷ rest) = other_put rows strict_access rest refl (put_texts (put rows strict_access) rest)
 put_texts rows (explain ∷ rest) = other_put rows explain rest refl (put_texts (put rows explain) rest)
 put_texts rows (cover ∷ rest) = other_put rows cover rest refl (put_texts (put rows cover) rest)
@@ -228,6 +245,9 @@ put_texts rows (at n ∷ rest) = other_put rows (at n) rest refl (put_texts (put
 put_texts rows (job line ∷ rest) = other_put rows (job line) rest refl (put_texts (put rows (job line)) rest)
 put_texts rows (states ∷ rest) = other_put rows states rest refl (put_texts (put rows states) rest)
 put_texts rows (at_once ∷ rest) = other_put rows at_once rest refl (put_texts (put rows at_once) rest)
+put_texts rows (runs n ∷ rest) = other_put rows (runs n) rest refl (put_texts (put rows (runs n)) rest)
+put_texts rows (seed n ∷ rest) = other_put rows (seed n) rest refl (put_texts (put rows (seed n)) rest)
+put_texts rows (format text ∷ rest) = other_put rows (format text) rest refl (put_texts (put rows (format text)) rest)
 
 -- all texts that are given are in the rows, in their order
 pub given_texts : (given : List Given) → texts_in (put_all [] given) ≡ texts_of given
@@ -243,11 +263,15 @@ depth_row (strict_access ∷ rest) = depth_row rest
 depth_row (explain ∷ rest) = depth_row rest
 depth_row (cover ∷ rest) = depth_row rest
 depth_row (main_deadlock ∷ rest) = depth_row rest
+depth_row (idle_servers ∷ rest) = depth_row rest
 depth_row (normal text ∷ rest) = depth_row rest
 depth_row (at n ∷ rest) = depth_row rest
 depth_row (job line ∷ rest) = depth_row rest
 depth_row (states ∷ rest) = depth_row rest
 depth_row (at_once ∷ rest) = depth_row rest
+depth_row (runs n ∷ rest) = depth_row rest
+depth_row (seed n ∷ rest) = depth_row rest
+depth_row (format text ∷ rest) = depth_row rest
 
 pub nodes_row : (given : List Given) → row_at (codes "nodes") (map row_of given) ≡ option_map (λ n. row_of (nodes n)) (slice_get (nodes_of given) 0)
 nodes_row [] = refl
@@ -259,11 +283,15 @@ nodes_row (strict_access ∷ rest) = nodes_row rest
 nodes_row (explain ∷ rest) = nodes_row rest
 nodes_row (cover ∷ rest) = nodes_row rest
 nodes_row (main_deadlock ∷ rest) = nodes_row rest
+nodes_row (idle_servers ∷ rest) = nodes_row rest
 nodes_row (normal text ∷ rest) = nodes_row rest
 nodes_row (at n ∷ rest) = nodes_row rest
 nodes_row (job line ∷ rest) = nodes_row rest
 nodes_row (states ∷ rest) = nodes_row rest
 nodes_row (at_once ∷ rest) = nodes_row rest
+nodes_row (runs n ∷ rest) = nodes_row rest
+nodes_row (seed n ∷ rest) = nodes_row rest
+nodes_row (format text ∷ rest) = nodes_row rest
 
 pub workers_row : (given : List Given) → row_at (codes "workers") (map row_of given) ≡ option_map (λ n. row_of (workers n)) (slice_get (workers_of given) 0)
 workers_row [] = refl
@@ -275,11 +303,15 @@ workers_row (strict_access ∷ rest) = workers_row rest
 workers_row (explain ∷ rest) = workers_row rest
 workers_row (cover ∷ rest) = workers_row rest
 workers_row (main_deadlock ∷ rest) = workers_row rest
+workers_row (idle_servers ∷ rest) = workers_row rest
 workers_row (normal text ∷ rest) = workers_row rest
 workers_row (at n ∷ rest) = workers_row rest
 workers_row (job line ∷ rest) = workers_row rest
 workers_row (states ∷ rest) = workers_row rest
 workers_row (at_once ∷ rest) = workers_row rest
+workers_row (runs n ∷ rest) = workers_row rest
+workers_row (seed n ∷ rest) = workers_row rest
+workers_row (format text ∷ rest) = workers_row rest
 
 pub allow_deadlock_row : (given : List Given) → row_at (codes "allow-deadlock") (map row_of given) ≡ cond (list_any is_allow_deadlock given) (Some (row_of allow_deadlock)) None
 allow_deadlock_row [] = refl
@@ -291,11 +323,15 @@ allow_deadlock_row (strict_access ∷ rest) = allow_deadlock_row rest
 allow_deadlock_row (explain ∷ rest) = allow_deadlock_row rest
 allow_deadlock_row (cover ∷ rest) = allow_deadlock_row rest
 allow_deadlock_row (main_deadlock ∷ rest) = allow_deadlock_row rest
+allow_deadlock_row (idle_servers ∷ rest) = allow_deadlock_row rest
 allow_deadlock_row (normal text ∷ rest) = allow_deadlock_row rest
 allow_deadlock_row (at n ∷ rest) = allow_deadlock_row rest
 allow_deadlock_row (job line ∷ rest) = allow_deadlock_row rest
 allow_deadlock_row (states ∷ rest) = allow_deadlock_row rest
 allow_deadlock_row (at_once ∷ rest) = allow_deadlock_row rest
+allow_deadlock_row (runs n ∷ rest) = allow_deadlock_row rest
+allow_deadlock_row (seed n ∷ rest) = allow_deadlock_row rest
+allow_deadlock_row (format text ∷ rest) = allow_deadlock_row rest
 
 pub main_deadlock_row : (given : List Given) → row_at (codes "main-deadlock") (map row_of given) ≡ cond (list_any is_main_deadlock given) (Some (row_of main_deadlock)) None
 main_deadlock_row [] = refl
@@ -307,11 +343,35 @@ main_deadlock_row (strict_access ∷ rest) = main_deadlock_row rest
 main_deadlock_row (explain ∷ rest) = main_deadlock_row rest
 main_deadlock_row (cover ∷ rest) = main_deadlock_row rest
 main_deadlock_row (allow_deadlock ∷ rest) = main_deadlock_row rest
+main_deadlock_row (idle_servers ∷ rest) = main_deadlock_row rest
 main_deadlock_row (normal text ∷ rest) = main_deadlock_row rest
 main_deadlock_row (at n ∷ rest) = main_deadlock_row rest
 main_deadlock_row (job line ∷ rest) = main_deadlock_row rest
 main_deadlock_row (states ∷ rest) = main_deadlock_row rest
 main_deadlock_row (at_once ∷ rest) = main_deadlock_row rest
+main_deadlock_row (runs n ∷ rest) = main_deadlock_row rest
+main_deadlock_row (seed n ∷ rest) = main_deadlock_row rest
+main_deadlock_row (format text ∷ rest) = main_deadlock_row rest
+
+pub idle_servers_row : (given : List Given) → row_at (codes "idle-servers") (map row_of given) ≡ cond (list_any is_idle_servers given) (Some (row_of idle_servers)) None
+idle_servers_row [] = refl
+idle_servers_row (idle_servers ∷ rest) = refl
+idle_servers_row (depth n ∷ rest) = idle_servers_row rest
+idle_servers_row (nodes n ∷ rest) = idle_servers_row rest
+idle_servers_row (workers n ∷ rest) = idle_servers_row rest
+idle_servers_row (strict_access ∷ rest) = idle_servers_row rest
+idle_servers_row (explain ∷ rest) = idle_servers_row rest
+idle_servers_row (cover ∷ rest) = idle_servers_row rest
+idle_servers_row (allow_deadlock ∷ rest) = idle_servers_row rest
+idle_servers_row (main_deadlock ∷ rest) = idle_servers_row rest
+idle_servers_row (normal text ∷ rest) = idle_servers_row rest
+idle_servers_row (at n ∷ rest) = idle_servers_row rest
+idle_servers_row (job line ∷ rest) = idle_servers_row rest
+idle_servers_row (states ∷ rest) = idle_servers_row rest
+idle_servers_row (at_once ∷ rest) = idle_servers_row rest
+idle_servers_row (runs n ∷ rest) = idle_servers_row rest
+idle_servers_row (seed n ∷ rest) = idle_servers_row rest
+idle_servers_row (format text ∷ rest) = idle_servers_row rest
 
 pub strict_access_row : (given : List Given) → row_at (codes "strict-access") (map row_of given) ≡ cond (list_any is_strict_access given) (Some (row_of strict_access)) None
 strict_access_row [] = refl
@@ -323,11 +383,15 @@ strict_access_row (allow_deadlock ∷ rest) = strict_access_row rest
 strict_access_row (explain ∷ rest) = strict_access_row rest
 strict_access_row (cover ∷ rest) = strict_access_row rest
 strict_access_row (main_deadlock ∷ rest) = strict_access_row rest
+strict_access_row (idle_servers ∷ rest) = strict_access_row rest
 strict_access_row (normal text ∷ rest) = strict_access_row rest
 strict_access_row (at n ∷ rest) = strict_access_row rest
 strict_access_row (job line ∷ rest) = strict_access_row rest
 strict_access_row (states ∷ rest) = strict_access_row rest
 strict_access_row (at_once ∷ rest) = strict_access_row rest
+strict_access_row (runs n ∷ rest) = strict_access_row rest
+strict_access_row (seed n ∷ rest) = strict_access_row rest
+strict_access_row (format text ∷ rest) = strict_access_row rest
 
 pub explain_row : (given : List Given) → row_at (codes "explain") (map row_of given) ≡ cond (list_any is_explain given) (Some (row_of explain)) None
 explain_row [] = refl
@@ -339,11 +403,15 @@ explain_row (allow_deadlock ∷ rest) = explain_row rest
 explain_row (strict_access ∷ rest) = explain_row rest
 explain_row (cover ∷ rest) = explain_row rest
 explain_row (main_deadlock ∷ rest) = explain_row rest
+explain_row (idle_servers ∷ rest) = explain_row rest
 explain_row (normal text ∷ rest) = explain_row rest
 explain_row (at n ∷ rest) = explain_row rest
 explain_row (job line ∷ rest) = explain_row rest
 explain_row (states ∷ rest) = explain_row rest
 explain_row (at_once ∷ rest) = explain_row rest
+explain_row (runs n ∷ rest) = explain_row rest
+explain_row (seed n ∷ rest) = explain_row rest
+explain_row (format text ∷ rest) = explain_row rest
 
 pub cover_row : (given : List Given) → row_at (codes "cover") (map row_of given) ≡ cond (list_any is_cover given) (Some (row_of cover)) None
 cover_row [] = refl
@@ -355,11 +423,15 @@ cover_row (allow_deadlock ∷ rest) = cover_row rest
 cover_row (strict_access ∷ rest) = cover_row rest
 cover_row (explain ∷ rest) = cover_row rest
 cover_row (main_deadlock ∷ rest) = cover_row rest
+cover_row (idle_servers ∷ rest) = cover_row rest
 cover_row (normal text ∷ rest) = cover_row rest
 cover_row (at n ∷ rest) = cover_row rest
 cover_row (job line ∷ rest) = cover_row rest
 cover_row (states ∷ rest) = cover_row rest
 cover_row (at_once ∷ rest) = cover_row rest
+cover_row (runs n ∷ rest) = cover_row rest
+cover_row (seed n ∷ rest) = cover_row rest
+cover_row (format text ∷ rest) = cover_row rest
 
 pub states_row : (given : List Given) → row_at (codes "states") (map row_of given) ≡ cond (list_any is_states given) (Some (row_of states)) None
 states_row [] = refl
@@ -371,11 +443,15 @@ states_row (allow_deadlock ∷ rest) = states_row rest
 states_row (strict_access ∷ rest) = states_row rest
 states_row (explain ∷ rest) = states_row rest
 states_row (main_deadlock ∷ rest) = states_row rest
+states_row (idle_servers ∷ rest) = states_row rest
 states_row (normal text ∷ rest) = states_row rest
 states_row (at n ∷ rest) = states_row rest
 states_row (job line ∷ rest) = states_row rest
 states_row (cover ∷ rest) = states_row rest
 states_row (at_once ∷ rest) = states_row rest
+states_row (runs n ∷ rest) = states_row rest
+states_row (seed n ∷ rest) = states_row rest
+states_row (format text ∷ rest) = states_row rest
 
 pub at_once_row : (given : List Given) → row_at (codes "at-once") (map row_of given) ≡ cond (list_any is_at_once given) (Some (row_of at_once)) None
 at_once_row [] = refl
@@ -387,11 +463,15 @@ at_once_row (allow_deadlock ∷ rest) = at_once_row rest
 at_once_row (strict_access ∷ rest) = at_once_row rest
 at_once_row (explain ∷ rest) = at_once_row rest
 at_once_row (main_deadlock ∷ rest) = at_once_row rest
+at_once_row (idle_servers ∷ rest) = at_once_row rest
 at_once_row (normal text ∷ rest) = at_once_row rest
 at_once_row (at n ∷ rest) = at_once_row rest
 at_once_row (job line ∷ rest) = at_once_row rest
 at_once_row (cover ∷ rest) = at_once_row rest
 at_once_row (states ∷ rest) = at_once_row rest
+at_once_row (runs n ∷ rest) = at_once_row rest
+at_once_row (seed n ∷ rest) = at_once_row rest
+at_once_row (format text ∷ rest) = at_once_row rest
 
 pub at_option_row : (given : List Given) → row_at (codes "at") (map row_of given) ≡ option_map (λ n. row_of (at n)) (slice_get (ats_of given) 0)
 at_option_row [] = refl
@@ -404,10 +484,14 @@ at_option_row (strict_access ∷ rest) = at_option_row rest
 at_option_row (explain ∷ rest) = at_option_row rest
 at_option_row (cover ∷ rest) = at_option_row rest
 at_option_row (main_deadlock ∷ rest) = at_option_row rest
+at_option_row (idle_servers ∷ rest) = at_option_row rest
 at_option_row (normal text ∷ rest) = at_option_row rest
 at_option_row (job line ∷ rest) = at_option_row rest
 at_option_row (states ∷ rest) = at_option_row rest
 at_option_row (at_once ∷ rest) = at_option_row rest
+at_option_row (runs n ∷ rest) = at_option_row rest
+at_option_row (seed n ∷ rest) = at_option_row rest
+at_option_row (format text ∷ rest) = at_option_row rest
 
 pub job_row : (given : List Given) → row_at (codes "job") (map row_of given) ≡ option_map (λ line. row_of (job line)) (slice_get (jobs_of given) 0)
 job_row [] = refl
@@ -420,10 +504,74 @@ job_row (strict_access ∷ rest) = job_row rest
 job_row (explain ∷ rest) = job_row rest
 job_row (cover ∷ rest) = job_row rest
 job_row (main_deadlock ∷ rest) = job_row rest
+job_row (idle_servers ∷ rest) = job_row rest
 job_row (normal text ∷ rest) = job_row rest
 job_row (at n ∷ rest) = job_row rest
 job_row (states ∷ rest) = job_row rest
 job_row (at_once ∷ rest) = job_row rest
+job_row (runs n ∷ rest) = job_row rest
+job_row (seed n ∷ rest) = job_row rest
+job_row (format text ∷ rest) = job_row rest
+
+pub runs_row : (given : List Given) → row_at (codes "runs") (map row_of given) ≡ option_map (λ n. row_of (runs n)) (slice_get (runs_of given) 0)
+runs_row [] = refl
+runs_row (runs n ∷ rest) = refl
+runs_row (depth n ∷ rest) = runs_row rest
+runs_row (nodes n ∷ rest) = runs_row rest
+runs_row (workers n ∷ rest) = runs_row rest
+runs_row (allow_deadlock ∷ rest) = runs_row rest
+runs_row (strict_access ∷ rest) = runs_row rest
+runs_row (explain ∷ rest) = runs_row rest
+runs_row (cover ∷ rest) = runs_row rest
+runs_row (main_deadlock ∷ rest) = runs_row rest
+runs_row (idle_servers ∷ rest) = runs_row rest
+runs_row (normal text ∷ rest) = runs_row rest
+runs_row (at n ∷ rest) = runs_row rest
+runs_row (job line ∷ rest) = runs_row rest
+runs_row (states ∷ rest) = runs_row rest
+runs_row (at_once ∷ rest) = runs_row rest
+runs_row (seed n ∷ rest) = runs_row rest
+runs_row (format text ∷ rest) = runs_row rest
+
+pub seed_row : (given : List Given) → row_at (codes "seed") (map row_of given) ≡ option_map (λ n. row_of (seed n)) (slice_get (seeds_of given) 0)
+seed_row [] = refl
+seed_row (seed n ∷ rest) = refl
+seed_row (depth n ∷ rest) = seed_row rest
+seed_row (nodes n ∷ rest) = seed_row rest
+seed_row (workers n ∷ rest) = seed_row rest
+seed_row (allow_deadlock ∷ rest) = seed_row rest
+seed_row (strict_access ∷ rest) = seed_row rest
+seed_row (explain ∷ rest) = seed_row rest
+seed_row (cover ∷ rest) = seed_row rest
+seed_row (main_deadlock ∷ rest) = seed_row rest
+seed_row (idle_servers ∷ rest) = seed_row rest
+seed_row (normal text ∷ rest) = seed_row rest
+seed_row (at n ∷ rest) = seed_row rest
+seed_row (job line ∷ rest) = seed_row rest
+seed_row (states ∷ rest) = seed_row rest
+seed_row (at_once ∷ rest) = seed_row rest
+seed_row (runs n ∷ rest) = seed_row rest
+seed_row (format text ∷ rest) = seed_row rest
+
+pub format_row : (given : List Given) → row_at (codes "format") (map row_of given) ≡ option_map (λ text. row_of (format text)) (slice_get (formats_of given) 0)
+format_row [] = refl
+format_row (format text ∷ rest) = refl
+format_row (depth n ∷ rest) = format_row rest
+format_row (nodes n ∷ rest) = format_row rest
+format_row (workers n ∷ rest) = format_row rest
+format_row (allow_deadlock ∷ rest) = format_row rest
+format_row (strict_access ∷ rest) = format_row rest
+format_row (explain ∷ rest) = format_row rest
+format_row (cover ∷ rest) = format_row rest
+format_row (main_deadlock ∷ rest) = format_row rest
+format_row (idle_servers ∷ rest) = format_row rest
+format_row (normal text ∷ rest) = format_row rest
+format_row (at n ∷ rest) = format_row rest
+format_row (job line ∷ rest) = format_row rest
+format_row (states ∷ rest) = format_row rest
+format_row (at_once ∷ rest) = format_row rest
+format_row (runs n ∷ rest) = format_row rest
+format_row (seed n ∷ rest) = format_row rest
 
 -- ---- the defaults
 
@@ -489,6 +637,7 @@ row_or id value row = Some (unwrap_or row (row_with DefaultValue id value))
 pub depth_left : (level : Level) (rows : List Row) → row_at (codes "depth") (with_defaults level rows) ≡ row_at (codes "depth") rows
 depth_left exploring rows = all_left (codes "depth") (built_of exploring).rules rows
 depth_left checking rows = all_left (codes "depth") (built_of checking).rules rows
+depth_left sampling rows = all_left (codes "depth") (built_of sampling).rules rows
 depth_left (splitting which) rows = all_left (codes "depth") (built_of (splitting which)).rules rows
 
 pub at_left : (which : Splitter) (rows : List Row) → row_at (codes "at") (with_defaults (splitting which) rows) ≡ row_at (codes "at") rows
@@ -497,32 +646,57 @@ at_left which rows = all_left (codes "at") (built_of (splitting which)).rules ro
 pub job_left : (rows : List Row) → row_at (codes "job") (with_defaults exploring rows) ≡ row_at (codes "job") rows
 job_left rows = all_left (codes "job") (built_of exploring).rules rows
 
+pub format_left : (rows : List Row) → row_at (codes "format") (with_defaults exploring rows) ≡ row_at (codes "format") rows
+format_left rows = all_left (codes "format") (built_of exploring).rules rows
+
+pub sample_format_left : (rows : List Row) → row_at (codes "format") (with_defaults sampling rows) ≡ row_at (codes "format") rows
+sample_format_left rows = all_left (codes "format") (built_of sampling).rules rows
+
 pub nodes_left : (rows : List Row) → row_at (codes "nodes") (with_defaults exploring rows) ≡ row_or (codes "nodes") (codes "1000000") (row_at (codes "nodes") rows)
 nodes_left rows = all_left (codes "nodes") (built_of exploring).rules rows
 
 pub workers_left : (rows : List Row) → row_at (codes "workers") (with_defaults exploring rows) ≡ row_or (codes "workers") (codes "1") (row_at (codes "workers") rows)
 workers_left rows = all_left (codes "workers") (built_of exploring).rules rows
 
+pub runs_left : (rows : List Row) → row_at (codes "runs") (with_defaults sampling rows) ≡ row_or (codes "runs") (codes "1000") (row_at (codes "runs") rows)
+runs_left rows = all_left (codes "runs") (built_of sampling).rules rows
+
+pub seed_left : (rows : List Row) → row_at (codes "seed") (with_defaults sampling rows) ≡ row_or (codes "seed") (codes "1") (row_at (codes "seed") rows)
+seed_left rows = all_left (codes "seed") (built_of sampling).rules rows
+
 pub allow_deadlock_left : (level : Level) (rows : List Row)
     → row_at (codes "allow-deadlock") (with_defaults level rows) ≡ row_or (codes "allow-deadlock") (codes "false") (row_at (codes "allow-deadlock") rows)
 allow_deadlock_left exploring rows = all_left (codes "allow-deadlock") (built_of exploring).rules rows
 allow_deadlock_left checking rows = all_left (codes "allow-deadlock") (built_of checking).rules rows
+allow_deadlock_left sampling rows = all_left (codes "allow-deadlock") (built_of sampling).rules rows
 allow_deadlock_left (splitting which) rows = all_left (codes "allow-deadlock") (built_of (splitting which)).rules rows
 
 pub main_deadlock_left : (level : Level) (rows : List Row)
     → row_at (codes "main-deadlock") (with_defaults level rows) ≡ row_or (codes "main-deadlock") (codes "false") (row_at (codes "main-deadlock") rows)
 main_deadlock_left exploring rows = all_left (codes "main-deadlock") (built_of exploring).rules rows
 main_deadlock_left checking rows = all_left (codes "main-deadlock") (built_of checking).rules rows
+main_deadlock_left sampling rows = all_left (codes "main-deadlock") (built_of sampling).rules rows
 main_deadlock_left (splitting which) rows = all_left (codes "main-deadlock") (built_of (splitting which)).rules rows
+
+pub idle_servers_left : (level : Level) (rows : List Row)
+    → row_at (codes "idle-servers") (with_defaults level rows) ≡ row_or (codes "idle-servers") (codes "false") (row_at (codes "idle-servers") rows)
+idle_servers_left exploring rows = all_left (codes "idle-servers") (built_of exploring).rules rows
+idle_servers_left checking rows = all_left (codes "idle-servers") (built_of checking).rules rows
+idle_servers_left sampling rows = all_left (codes "idle-servers") (built_of sampling).rules rows
+idle_servers_left (splitting which) rows = all_left (codes "idle-servers") (built_of (splitting which)).rules rows
 
 pub strict_access_left : (level : Level) (rows : List Row)
     → row_at (codes "strict-access") (with_defaults level rows) ≡ row_or (codes "strict-access") (codes "false") (row_at (codes "strict-access") rows)
 strict_access_left exploring rows = all_left (codes "strict-access") (built_of exploring).rules rows
 strict_access_left checking rows = all_left (codes "strict-access") (built_of checking).rules rows
+strict_access_left sampling rows = all_left (codes "strict-access") (built_of sampling).rules rows
 strict_access_left (splitting which) rows = all_left (codes "strict-access") (built_of (splitting which)).rules rows
 
 pub explain_left : (rows : List Row) → row_at (codes "explain") (with_defaults exploring rows) ≡ row_or (codes "explain") (codes "false") (row_at (codes "explain") rows)
 explain_left rows = all_left (codes "explain") (built_of exploring).rules rows
+
+pub sample_explain_left : (rows : List Row) → row_at (codes "explain") (with_defaults sampling rows) ≡ row_or (codes "explain") (codes "false") (row_at (codes "explain") rows)
+sample_explain_left rows = all_left (codes "explain") (built_of sampling).rules rows
 
 pub cover_left : (rows : List Row) → row_at (codes "cover") (with_defaults exploring rows) ≡ row_or (codes "cover") (codes "false") (row_at (codes "cover") rows)
 cover_left rows = all_left (codes "cover") (built_of exploring).rules rows
@@ -533,10 +707,14 @@ states_left rows = all_left (codes "states") (built_of exploring).rules rows
 pub at_once_left : (rows : List Row) → row_at (codes "at-once") (with_defaults exploring rows) ≡ row_or (codes "at-once") (codes "false") (row_at (codes "at-once") rows)
 at_once_left rows = all_left (codes "at-once") (built_of exploring).rules rows
 
+pub sample_at_once_left : (rows : List Row) → row_at (codes "at-once") (with_defaults sampling rows) ≡ row_or (codes "at-once") (codes "false") (row_at (codes "at-once") rows)
+sample_at_once_left rows = all_left (codes "at-once") (built_of sampling).rules rows
+
 -- the texts of `--normal` have no default
 pub normal_left : (level : Level) (rows : List Row) → texts_in (with_defaults level rows) ≡ texts_in rows
 normal_left exploring rows = ap texts_of_row (all_left (codes "normal") (built_of exploring).rules rows)
 normal_left checking rows = ap texts_of_row (all_left (codes "normal") (built_of checking).rules rows)
+normal_left sampling rows = ap texts_of_row (all_left (codes "normal") (built_of sampling).rules rows)
 normal_left (splitting which) rows = ap texts_of_row (all_left (codes "normal") (built_of (splitting which)).rules rows)
 
 -- the text that is read of a row

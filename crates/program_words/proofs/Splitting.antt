@@ -85,6 +85,9 @@ module _ (which : Splitter) (words : List Text) (given : List Given) (steps plac
     jobs = omega (arith, ap length says.no_job);
     states = omega (arith, says.no_states);
     at_once = omega (arith, says.no_at_once);
+    runs = omega (arith, ap length says.no_runs);
+    seeds = omega (arith, ap length says.no_seed);
+    formats = omega (arith, ap length says.no_format);
   }
 
   -- the options of such a command, each once, except for `--normal`, and in its range
@@ -95,12 +98,14 @@ module _ (which : Splitter) (words : List Text) (given : List Given) (steps plac
     depth = says.depth;
     allow_deadlock = says.allow_deadlock;
     strict_access = says.strict_access;
+    idle_servers = says.idle_servers;
     once = record {
       depths = omega (arith, ap length says.depth);
       nodes = omega (arith, ap length says.no_nodes);
       workers = omega (arith, ap length says.no_workers);
       allow_deadlock = at_most_once _ flags.allow_deadlock says.allow_deadlock;
       main_deadlock = says.main_deadlock;
+      idle_servers = at_most_once _ flags.idle_servers says.idle_servers;
       strict_access = at_most_once _ flags.strict_access says.strict_access;
       explain = omega (arith, says.no_explain);
       cover = omega (arith, says.no_cover);
@@ -108,6 +113,9 @@ module _ (which : Splitter) (words : List Text) (given : List Given) (steps plac
       jobs = omega (arith, ap length says.no_job);
       states = omega (arith, says.no_states);
       at_once = omega (arith, says.no_at_once);
+      runs = omega (arith, ap length says.no_runs);
+      seeds = omega (arith, ap length says.no_seed);
+      formats = omega (arith, ap length says.no_format);
     };
     lawful = split_lawful_by which given (subst (Each (λ n. n ≤ 400)) (sym says.depth) (says.in_range, tt)) (subst (Each (λ n. n ≤ 400)) (sym says.at) (says.at_in_range, tt)) none says.normal;
     place = place;

@@ -1,5 +1,5 @@
 -- The texts of terms, read one after another.
-use Rattle.std.proofs.Common.{◌≡◌, ◌∙◌, ◌&&◌, ℕ, ◌+◌, ◌<◌, ◌≤◌, zero, suc, Bool, true, false, List, [], ◌∷◌, ◌++◌, length, map, take, get_or, Option, Some, None, codes, option_map, refl, sym, ap, subst, arith, true≢false}
+use Rattle.std.proofs.Common.{◌≡◌, ◌∙◌, ◌&&◌, ◌||◌, ℕ, ◌+◌, ◌<◌, ◌≤◌, zero, suc, Bool, true, false, List, [], ◌∷◌, ◌++◌, length, map, take, get_or, Option, Some, None, codes, option_map, refl, sym, ap, subst, arith, true≢false}
 use Rattle.std.specs.Borrow.{Bor}
 use Rattle.std.specs.List.{AllByRecursion}
 use Rattle.std.specs.Option.{unwrap_or}
@@ -125,25 +125,43 @@ pub and_false : (b : Bool) → (b && false) ≡ false
 and_false true = refl
 and_false false = refl
 
--- without rows, nothing is excused
+-- without rows, a flag is not given
+no_flag : (id : Text) (rows : List Row) → rows ≡ [] → ReadsFlag (one_of id rows) false
+no_flag id rows none = record {
+  set = λ e. let some : None ≡ Some (codes "true") = sym (ap (one_of id) none) ∙ e in cc;
+  unset = λ e. refl;
+}
+
+-- and nothing is excused
 pub none_excused : (flags : Flags) (rows : List Row) (read : declared.Excuses) → rows ≡ [] → excuses_in read ≡ no_excuses → AreExcusesIn flags rows read
 none_excused flags rows read none is = record {
-  main_deadlock = record {
-    set = λ e. let some : None ≡ Some (codes "true") = sym (ap (one_of (codes "main-deadlock")) none) ∙ e in cc;
-    unset = λ e. ap (λ (x : Excuses). x.main_deadlock) is;
-  };
+  main = false;
+  idle = false;
+  main_is = no_flag (codes "main-deadlock") rows none;
+  idle_is = no_flag (codes "idle-servers") rows none;
+  one = refl;
+  main_deadlock = ap (λ (x : Excuses). x.main_deadlock) is;
   normal = ap texts_in none ∙ sym (ap (λ (x : Excuses). map text_of_term x.normal) is);
   in_range = subst (AreExcusesInRange flags) (sym is) (record { few = omega arith; lawful = tt; apart = and_false flags.allow_deadlock });
 }
 
--- both flags of deadlocks are asked for by no rows of excuses
-pub both_refused : (flags : Flags) (rows : List Row) (excuses : Excuses) (main : Bool) → ReadsFlag (one_of (codes "main-deadlock") rows) main → main ≡ true → flags.allow_deadlock ≡ true
-    → AskExcuses flags rows excuses → ⊥
-both_refused flags rows excuses main reads is allowed asks =
-    let same : main ≡ excuses.main_deadlock = flag_is _ excuses.main_deadlock main asks.main_deadlock reads in
-    let asked : excuses.main_deadlock ≡ true = sym same ∙ is in
-    let set : (flags.allow_deadlock && excuses.main_deadlock) ≡ true = (λ i. allowed i && asked i) in
-    true≢false (sym set ∙ asks.in_range.apart)
+-- more than one flag of deadlocks excuses nothing
+pub two_apart : (allow main idle excused : Bool) → ((allow && (main || idle)) || (main && idle)) ≡ true → (main && idle) ≡ false → excused ≡ (main || idle) → (allow && excused) ≡ false → ⊥
+two_apart true main idle excused two one is apart =
+    let none : (main || idle) ≡ false = sym is ∙ apart in
+    let both : ((main || idle) || (main && idle)) ≡ false = (λ j. none j || one j) in
+    true≢false (sym two ∙ both)
+two_apart false main idle excused two one is apart = true≢false (sym two ∙ one)
+
+-- so it is asked for by no rows of excuses
+pub two_refused : (flags : Flags) (rows : List Row) (excuses : Excuses) (main idle : Bool) → ReadsFlag (one_of (codes "main-deadlock") rows) main → ReadsFlag (one_of (codes "idle-servers") rows) idle
+    → ((flags.allow_deadlock && (main || idle)) || (main && idle)) ≡ true → AskExcuses flags rows excuses → ⊥
+two_refused flags rows excuses main idle main_reads idle_reads two asks =
+    let same : main ≡ asks.main = flag_is _ asks.main main asks.main_is main_reads in
+    let other : idle ≡ asks.idle = flag_is _ asks.idle idle asks.idle_is idle_reads in
+    let both : (main && idle) ≡ (asks.main && asks.idle) = (λ j. same j && other j) in
+    let either : (main || idle) ≡ (asks.main || asks.idle) = (λ j. same j || other j) in
+    two_apart flags.allow_deadlock main idle excuses.main_deadlock two (both ∙ asks.one) (asks.main_deadlock ∙ sym either) asks.in_range.apart
 
 -- the terms that rows of excuses ask for
 pub terms_asked : (flags : Flags) (rows : List Row) (excuses : Excuses) → AskExcuses flags rows excuses → AreTextsOf excuses.normal (texts_in rows)

@@ -8,19 +8,22 @@ use Rattle.tree_excuses.specs.Excuses.{Excuses}
 use Rattle.tree_excuses.specs.declared.excuses.Excuses as declared
 use Rattle.world_identities.specs.declared.flags.Flags.{Flags}
 use Rattle.tree_findings.specs.declared.options.Options.{Options}
+use Rattle.search_samples.specs.declared.sample.Samples.{Samples}
 use Rattle.program_words.specs.declared.command_line.Split.{Split}
 use Rattle.program_words.specs.declared.words.Printed.{Printed}
 use Rattle.program_words.specs.declared.words.Words.{Words}
-use Rattle.program_words.specs.declared.words.Words.TheVariants.{Replay, Explore, ExploreJob, Check, Jobs, Merge}
-use Rattle.program_words.specs.Words.{AreExcusesOf, AreUnreadable, AreWordsOfCheck, AreWordsOfExplore, AreWordsOfLevel, AskMoreOfJob, AskTreeOfStates, AsksCheck, AsksExplore, AsksExploreJob, AsksJobs, AsksMerge, AsksReplay, ExcuseNothing, Given, IsCheck, IsExplore, IsExploreJob, IsInRange, IsJobs, IsMerge, IsNamed, IsReplay, command_of, is_by_states, jobs_of, report_alone}
-use Rattle.program_words.specs.inside.CommandLine.{Splitter, checking, command_line, exploring, listing, merging, split_name, splitting}
-use Rattle.program_words.specs.inside.Found.{AreExcusesIn, AreJobsRead, AreOptionsOf, AskExcuses, AsksForOne, AsksForSplit, IsCheckOf, IsReadOf, IsSplitOf, IsSplitRead, job_in, rows_in, schedule_in}
+use Rattle.program_words.specs.declared.words.Words.TheVariants.{Replay, Explore, ExploreJob, Check, Jobs, Merge, Sample}
+use Rattle.program_words.specs.Words.{AreExcusesOf, AreFormats, AreUnreadable, AreWordsOfCheck, AreWordsOfExplore, AreWordsOfLevel, AreWordsOfSample, AskTooMuch, AsksCheck, AsksExplore, AsksExploreJob, AsksJobs, AsksMerge, AsksReplay, AsksSample, ExcuseNothing, Given, HasNoFormat, IsCheck, IsExplore, IsExploreJob, IsInRange, IsJobs, IsMerge, IsNamed, IsReplay, IsSample, command_of, formats_of, is_by_states, jobs_of, report_alone}
+use Rattle.program_words.specs.inside.CommandLine.{Splitter, checking, command_line, exploring, listing, merging, sampling, split_name, splitting}
+use Rattle.program_words.specs.inside.Found.{AreExcusesIn, AreJobsRead, AreOptionsOf, AreSamplesOf, AskExcuses, AsksForOne, AsksForSplit, HasKnownFormat, IsCheckOf, IsReadOf, IsSplitOf, IsSplitRead, format_in, is_unknown, job_in, rows_in, schedule_in}
 use Rattle.program_words.proofs.Asked.{rows_of_given}
 use Rattle.program_words.proofs.Checked.{check_enters, check_has_no_options, check_has_no_schedule, check_in_range, check_is_found, check_reads}
 use Rattle.program_words.proofs.Excusing.{excuses_same, given_asks, nothing_is_read}
-use Rattle.program_words.proofs.Explored.{explore_enters, explore_has_no_check, explore_has_no_schedule, explore_is_found, explore_job, explore_reads, found_in_range}
-use Rattle.program_words.proofs.Named.{check_named, explore_named, replay_named, split_named}
+use Rattle.program_words.proofs.Explored.{explore_enters, explore_format, explore_has_no_check, explore_has_no_schedule, explore_is_found, explore_job, explore_reads, found_in_range}
+use Rattle.program_words.proofs.Formats.{format_known, format_unknown}
+use Rattle.program_words.proofs.Named.{check_named, explore_named, replay_named, sample_named, split_named}
 use Rattle.program_words.proofs.Replayed.{replay_enters}
+use Rattle.program_words.proofs.Sampled.{no_samples, sample_enters, sample_format, sample_has_no_check, sample_has_no_options, sample_has_no_schedule, sample_is_found, sample_reads, samples_in_range, split_is_no_sample}
 use Rattle.program_words.proofs.Splitting.{asks_for_no_split, no_split, split_enters, split_has_no_check, split_has_no_options, split_has_no_schedule, split_in_range, split_is_found, split_read}
 
 -- what was found of a command line, as its parser answers
@@ -64,12 +67,16 @@ module _ (words : List Text) (schedule : Text) (asks : IsReplay words schedule) 
   pub replay_asks : AsksForOne (found_in words)
   replay_asks = record {
     explore = λ found of. absurd (replay_has_no_options found of);
+    format = λ found of. absurd (replay_has_no_options found of);
     job = λ found of line has. absurd (replay_has_no_options found of);
     states = λ found of. absurd (replay_has_no_options found of);
+    terms = λ found of. absurd (replay_has_no_options found of);
     check = λ found of. absurd (replay_has_no_check found of);
     jobs = asks_for_no_split (codes "jobs") (codes "replay") _ _ replay_found.is refl;
     merge = asks_for_no_split (codes "merge") (codes "replay") _ _ replay_found.is refl;
-    some = λ none options check jobs merge. replay_is_found none;
+    sample = λ found of. absurd (no_samples (codes "replay") _ _ found replay_found.is refl of);
+    sample_format = λ found of. absurd (no_samples (codes "replay") _ _ found replay_found.is refl of);
+    some = λ none options check jobs merge sample. replay_is_found none;
   }
 
   pub replay_reads : (w : Words) → IsReadOf (found_in words) w → AsksReplay schedule w
@@ -81,6 +88,7 @@ module _ (words : List Text) (schedule : Text) (asks : IsReplay words schedule) 
   replay_reads (Check steps flags excuses) is = replay_has_no_check (steps, flags) is.0
   replay_reads (Jobs place) is = no_split (codes "jobs") (codes "replay") _ _ is.split replay_found.is refl is.read.found
   replay_reads (Merge steps place flags excuses) is = no_split (codes "merge") (codes "replay") _ _ _ replay_found.is refl is.found
+  replay_reads (Sample samples excuses printed) is = no_samples (codes "replay") _ _ (samples, printed) replay_found.is refl is.0
 
 -- ---- an exploration
 
@@ -111,12 +119,22 @@ module _ (words : List Text) (given : List Given) (options : Options) (printed :
     -- and where that is nothing, nothing was read
     explore_excuses_nothing : (read : declared.Excuses) → AreExcusesIn found.0.flags (rows_in (found_in words)) read → ExcuseNothing given → ⊥
     explore_excuses_nothing read excused bad =
-        nothing_is_read exploring given options.flags read says.allow_deadlock
+        nothing_is_read exploring given options.flags read says.allow_deadlock says.main_deadlock says.idle_servers
         (subst (λ flags. AreExcusesIn flags (rows_of_given exploring given) read) explore_flags (subst (λ rows. AreExcusesIn found.0.flags rows read) explore_rows excused)) bad
 
     -- the search is the one that the words ask for
     explore_search : is_by_states found.0.search ≡ is_by_states options.search
     explore_search = ap (λ (x : Options). is_by_states x.search) (explore_reads words given options printed says found of).0
+
+  -- the format is the one that is given
+  explore_format_found : format_in (rows_in (found_in words)) ≡ slice_get (formats_of given) 0
+  explore_format_found = ap format_in explore_rows ∙ explore_format given
+
+  explore_known : AreFormats (formats_of given) → HasKnownFormat (found_in words)
+  explore_known known = ap is_unknown explore_format_found ∙ format_known (formats_of given) known
+
+  explore_unknown : HasNoFormat (formats_of given) → HasKnownFormat (found_in words) → ⊥
+  explore_unknown none known = true≢false (sym (ap is_unknown explore_format_found ∙ format_unknown (formats_of given) printed.terms says.format none) ∙ known)
 
   -- a search by states asks for nothing of the tree
   abbrev AsksNoTree : Type 0
@@ -127,17 +145,22 @@ module _ (words : List Text) (given : List Given) (options : Options) (printed :
       let none = spares (sym (explore_search found of) ∙ states) in
       (ap (λ (x : Printed). x.cover) (explore_reads words given options printed says found of).1 ∙ none.0, explore_job words given options printed says ∙ none.1)
 
-  pub explore_asks : (excuses : Excuses) → AreExcusesOf given options.flags excuses → ((line : Text) → slice_get (jobs_of given) 0 ≡ Some line → (printed.explained || printed.cover) ≡ false)
-      → AsksNoTree → AsksForOne (found_in words)
-  explore_asks excuses excused plain spares = record {
+  pub explore_asks : (excuses : Excuses) → AreExcusesOf given options.flags excuses → AreFormats (formats_of given)
+      → ((line : Text) → slice_get (jobs_of given) 0 ≡ Some line → (printed.explained || (printed.cover || printed.terms)) ≡ false) → AsksNoTree → (printed.terms && printed.cover) ≡ false
+      → AsksForOne (found_in words)
+  explore_asks excuses excused known plain spares apart = record {
     explore = λ found of. record { excuses = excuses; asks = explore_excuses found of excuses excused };
+    format = λ found of. explore_known known;
     job = λ found of line has.
-        ap (λ (x : Printed). x.explained || x.cover) (explore_reads words given options printed says found of).1 ∙ plain line (sym (explore_job words given options printed says) ∙ has);
+        ap (λ (x : Printed). x.explained || (x.cover || x.terms)) (explore_reads words given options printed says found of).1 ∙ plain line (sym (explore_job words given options printed says) ∙ has);
     states = explore_states spares;
+    terms = λ found of. ap (λ (x : Printed). x.terms && x.cover) (explore_reads words given options printed says found of).1 ∙ apart;
     check = λ found of. absurd (explore_has_no_check words given options printed says found of);
     jobs = asks_for_no_split (codes "jobs") (codes "explore") _ _ (explore_enters words given options printed says) refl;
     merge = asks_for_no_split (codes "merge") (codes "explore") _ _ (explore_enters words given options printed says) refl;
-    some = λ none found check jobs merge. explore_is_found words given options printed says found;
+    sample = λ found of. absurd (no_samples (codes "explore") _ _ found (explore_enters words given options printed says) refl of);
+    sample_format = λ found of. absurd (no_samples (codes "explore") _ _ found (explore_enters words given options printed says) refl of);
+    some = λ none found check jobs merge sample. explore_is_found words given options printed says found;
   }
 
   -- what is read of an exploration of all jobs
@@ -147,26 +170,28 @@ module _ (words : List Text) (given : List Given) (options : Options) (printed :
       let reads = explore_reads words given options printed says (found, prints) is.0 in
       (reads.0, (excuses_same found.flags (rows_in (found_in words)) excuses read (explore_excuses (found, prints) is.0 excuses excused) is.1.0, reads.1))
   all_jobs_read excuses excused none (ExploreJob found read line) is =
-      let both : Some (string_bytes line) ≡ None = sym is.1.1.0 ∙ explore_job words given options printed says ∙ ap (λ l. slice_get l 0) none in
+      let both : Some (string_bytes line) ≡ None = sym is.1.1.1.0 ∙ explore_job words given options printed says ∙ ap (λ l. slice_get l 0) none in
       cc
   all_jobs_read excuses excused none (Check steps flags read) is = explore_has_no_check words given options printed says (steps, flags) is.0
   all_jobs_read excuses excused none (Jobs place) is = no_split (codes "jobs") (codes "explore") _ _ is.split (explore_enters words given options printed says) refl is.read.found
   all_jobs_read excuses excused none (Merge steps place flags read) is = no_split (codes "merge") (codes "explore") _ _ _ (explore_enters words given options printed says) refl is.found
+  all_jobs_read excuses excused none (Sample samples read prints) is = no_samples (codes "explore") _ _ (samples, prints) (explore_enters words given options printed says) refl is.0
 
   -- and of one job alone
   one_job_read : (excuses : Excuses) (line : Text) → AreExcusesOf given options.flags excuses → jobs_of given ≡ line ∷ [] → (w : Words) → IsReadOf (found_in words) w → AsksExploreJob options excuses line w
   one_job_read excuses line excused one (Replay word) is = no_schedule words (string_bytes word) (explore_has_no_schedule words given options printed says) is
   one_job_read excuses line excused one (Explore found read prints) is =
-      let both : Some line ≡ None = sym (ap (λ l. slice_get l 0) one) ∙ sym (explore_job words given options printed says) ∙ is.1.1.0 in
+      let both : Some line ≡ None = sym (ap (λ l. slice_get l 0) one) ∙ sym (explore_job words given options printed says) ∙ is.1.1.1.0 in
       cc
   one_job_read excuses line excused one (ExploreJob found read word) is =
       let reads = explore_reads words given options printed says (found, report_alone) is.0 in
-      let same : Some (string_bytes word) ≡ Some line = sym is.1.1.0 ∙ explore_job words given options printed says ∙ ap (λ l. slice_get l 0) one in
+      let same : Some (string_bytes word) ≡ Some line = sym is.1.1.1.0 ∙ explore_job words given options printed says ∙ ap (λ l. slice_get l 0) one in
       let text : string_bytes word ≡ line = cc in
       (reads.0, (excuses_same found.flags (rows_in (found_in words)) excuses read (explore_excuses (found, report_alone) is.0 excuses excused) is.1.0, text))
   one_job_read excuses line excused one (Check steps flags read) is = explore_has_no_check words given options printed says (steps, flags) is.0
   one_job_read excuses line excused one (Jobs place) is = no_split (codes "jobs") (codes "explore") _ _ is.split (explore_enters words given options printed says) refl is.read.found
   one_job_read excuses line excused one (Merge steps place flags read) is = no_split (codes "merge") (codes "explore") _ _ _ (explore_enters words given options printed says) refl is.found
+  one_job_read excuses line excused one (Sample samples read prints) is = no_samples (codes "explore") _ _ (samples, prints) (explore_enters words given options printed says) refl is.0
 
   -- nothing is read of an exploration by states that asks for a cover, or for a job
   states_unread : (states cover : Bool) (lines : List Text) → states ≡ true → (cover ≡ true) ⊎ (length lines ≡ 1) → (states && cover) ≡ false → slice_get lines 0 ≡ None → ⊥
@@ -174,38 +199,47 @@ module _ (words : List Text) (given : List Given) (options : Options) (printed :
   states_unread true cover lines by_states (inl covered) none no_line = true≢false (sym covered ∙ none)
   states_unread true cover lines by_states (inr one) none no_line = has_line lines one no_line
 
-  -- nor of one that excuses nothing, or asks for more of a job
-  explore_unread : ExcuseNothing given ⊎ (AskMoreOfJob given printed ⊎ AskTreeOfStates given options printed) → (w : Words) → IsReadOf (found_in words) w → ⊥
+  -- nor of one that excuses nothing, has a format that there is not, asks for more of a job, or for a cover beside terms
+  explore_unread : ExcuseNothing given ⊎ (HasNoFormat (formats_of given) ⊎ AskTooMuch given options printed) → (w : Words) → IsReadOf (found_in words) w → ⊥
   explore_unread bad (Replay word) is = no_schedule words (string_bytes word) (explore_has_no_schedule words given options printed says) is
   explore_unread (inl bad) (Explore found read prints) is = explore_excuses_nothing (found, prints) is.0 read is.1.0 bad
-  explore_unread (inr (inl more)) (Explore found read prints) is = has_line (jobs_of given) more.0 (sym (explore_job words given options printed says) ∙ is.1.1.0)
-  explore_unread (inr (inr tree)) (Explore found read prints) is =
+  explore_unread (inr (inl none)) (Explore found read prints) is = explore_unknown none is.1.1.0
+  explore_unread (inr (inr (inl more))) (Explore found read prints) is = has_line (jobs_of given) more.0 (sym (explore_job words given options printed says) ∙ is.1.1.1.0)
+  explore_unread (inr (inr (inr (inl tree)))) (Explore found read prints) is =
       let reads = explore_reads words given options printed says (found, prints) is.0 in
       states_unread (is_by_states options.search) printed.cover (jobs_of given) tree.0 tree.1
-      (sym (λ i. is_by_states (reads.0 i).search && (reads.1 i).cover) ∙ is.1.1.1) (sym (explore_job words given options printed says) ∙ is.1.1.0)
+      (sym (λ i. is_by_states (reads.0 i).search && (reads.1 i).cover) ∙ is.1.1.1.1.0) (sym (explore_job words given options printed says) ∙ is.1.1.1.0)
+  explore_unread (inr (inr (inr (inr both)))) (Explore found read prints) is =
+      let same : prints ≡ printed = (explore_reads words given options printed says (found, prints) is.0).1 in
+      true≢false (sym both ∙ sym (ap (λ (x : Printed). x.terms && x.cover) same) ∙ is.1.1.1.1.1)
   explore_unread (inl bad) (ExploreJob found read line) is = explore_excuses_nothing (found, report_alone) is.0 read is.1.0 bad
-  explore_unread (inr (inr tree)) (ExploreJob found read line) is =
-      true≢false (sym tree.0 ∙ sym (explore_search (found, report_alone) is.0) ∙ is.1.1.1)
-  explore_unread (inr (inl more)) (ExploreJob found read line) is =
+  explore_unread (inr (inl none)) (ExploreJob found read line) is = explore_unknown none is.1.1.0
+  explore_unread (inr (inr (inl more))) (ExploreJob found read line) is =
       let same : report_alone ≡ printed = (explore_reads words given options printed says (found, report_alone) is.0).1 in
-      true≢false (sym more.1 ∙ sym (ap (λ (x : Printed). x.explained || x.cover) same))
+      true≢false (sym more.1 ∙ sym (ap (λ (x : Printed). x.explained || (x.cover || x.terms)) same))
+  explore_unread (inr (inr (inr (inl tree)))) (ExploreJob found read line) is =
+      true≢false (sym tree.0 ∙ sym (explore_search (found, report_alone) is.0) ∙ is.1.1.1.1)
+  explore_unread (inr (inr (inr (inr both)))) (ExploreJob found read line) is =
+      let same : report_alone ≡ printed = (explore_reads words given options printed says (found, report_alone) is.0).1 in
+      true≢false (sym both ∙ sym (ap (λ (x : Printed). x.terms && x.cover) same))
   explore_unread bad (Check steps flags read) is = explore_has_no_check words given options printed says (steps, flags) is.0
   explore_unread bad (Jobs place) is = no_split (codes "jobs") (codes "explore") _ _ is.split (explore_enters words given options printed says) refl is.read.found
   explore_unread bad (Merge steps place flags read) is = no_split (codes "merge") (codes "explore") _ _ _ (explore_enters words given options printed says) refl is.found
+  explore_unread bad (Sample samples read prints) is = no_samples (codes "explore") _ _ (samples, prints) (explore_enters words given options printed says) refl is.0
 
 pub all_jobs_ask : (words : List Text) (options : Options) (excuses : Excuses) (printed : Printed) → IsExplore words options excuses printed → AsksForOne (found_in words)
 all_jobs_ask words options excuses printed asks =
-    explore_asks words asks.given options printed asks.says excuses asks.excused
+    explore_asks words asks.given options printed asks.says excuses asks.excused asks.known
     (λ line is. let both : None ≡ Some line = sym (ap (λ l. slice_get l 0) asks.no_job) ∙ is in cc)
-    (λ states. (sym (ap (λ b. b && printed.cover) states) ∙ asks.no_cover_of_states, ap (λ l. slice_get l 0) asks.no_job))
+    (λ states. (sym (ap (λ b. b && printed.cover) states) ∙ asks.no_cover_of_states, ap (λ l. slice_get l 0) asks.no_job)) asks.no_cover_of_terms
 
 pub all_jobs_reads : (words : List Text) (options : Options) (excuses : Excuses) (printed : Printed) → IsExplore words options excuses printed → (w : Words) → IsReadOf (found_in words) w
     → AsksExplore options excuses printed w
 all_jobs_reads words options excuses printed asks = all_jobs_read words asks.given options printed asks.says excuses asks.excused asks.no_job
 
 pub one_job_asks : (words : List Text) (options : Options) (excuses : Excuses) (line : Text) → IsExploreJob words options excuses line → AsksForOne (found_in words)
-one_job_asks words options excuses line asks = explore_asks words asks.given options report_alone asks.says excuses asks.excused (λ line is. refl)
-    (λ states. absurd (true≢false (sym states ∙ ap is_by_states asks.by_tree)))
+one_job_asks words options excuses line asks = explore_asks words asks.given options report_alone asks.says excuses asks.excused asks.known (λ line is. refl)
+    (λ states. absurd (true≢false (sym states ∙ ap is_by_states asks.by_tree))) refl
 
 pub one_job_reads : (words : List Text) (options : Options) (excuses : Excuses) (line : Text) → IsExploreJob words options excuses line → (w : Words) → IsReadOf (found_in words) w
     → AsksExploreJob options excuses line w
@@ -225,18 +259,22 @@ module _ (words : List Text) (given : List Given) (steps : ℕ) (flags : Flags) 
 
     check_excuses_nothing : (read : declared.Excuses) → AreExcusesIn found.1 (rows_in (found_in words)) read → ExcuseNothing given → ⊥
     check_excuses_nothing read excused bad =
-        nothing_is_read checking given flags read says.allow_deadlock
+        nothing_is_read checking given flags read says.allow_deadlock says.main_deadlock says.idle_servers
         (subst (λ flags. AreExcusesIn flags (rows_of_given checking given) read) (check_reads words given steps flags says found of).1 (subst (λ rows. AreExcusesIn found.1 rows read) check_rows excused)) bad
 
   check_asked : (excuses : Excuses) → AreExcusesOf given flags excuses → AsksForOne (found_in words)
   check_asked excuses excused = record {
     explore = λ found of. absurd (check_has_no_options words given steps flags says found of);
+    format = λ found of. absurd (check_has_no_options words given steps flags says found of);
     job = λ found of line has. absurd (check_has_no_options words given steps flags says found of);
     states = λ found of. absurd (check_has_no_options words given steps flags says found of);
+    terms = λ found of. absurd (check_has_no_options words given steps flags says found of);
     check = λ found of. record { excuses = excuses; asks = check_excuses found of excuses excused };
     jobs = asks_for_no_split (codes "jobs") (codes "check") _ _ (check_enters words given steps flags says) refl;
     merge = asks_for_no_split (codes "merge") (codes "check") _ _ (check_enters words given steps flags says) refl;
-    some = λ none options found jobs merge. check_is_found words given steps flags says found;
+    sample = λ found of. absurd (no_samples (codes "check") _ _ found (check_enters words given steps flags says) refl of);
+    sample_format = λ found of. absurd (no_samples (codes "check") _ _ found (check_enters words given steps flags says) refl of);
+    some = λ none options found jobs merge sample. check_is_found words given steps flags says found;
   }
 
   check_read : (excuses : Excuses) → AreExcusesOf given flags excuses → (w : Words) → IsReadOf (found_in words) w → AsksCheck steps flags excuses w
@@ -248,6 +286,7 @@ module _ (words : List Text) (given : List Given) (steps : ℕ) (flags : Flags) 
       (reads.0, (reads.1, excuses_same counts (rows_in (found_in words)) excuses read (check_excuses (found, counts) is.0 excuses excused) is.1))
   check_read excuses excused (Jobs place) is = no_split (codes "jobs") (codes "check") _ _ is.split (check_enters words given steps flags says) refl is.read.found
   check_read excuses excused (Merge depth place counts read) is = no_split (codes "merge") (codes "check") _ _ _ (check_enters words given steps flags says) refl is.found
+  check_read excuses excused (Sample samples read printed) is = no_samples (codes "check") _ _ (samples, printed) (check_enters words given steps flags says) refl is.0
 
   check_unread : ExcuseNothing given → (w : Words) → IsReadOf (found_in words) w → ⊥
   check_unread bad (Replay word) is = no_schedule words (string_bytes word) (check_has_no_schedule words given steps flags says) is
@@ -256,6 +295,7 @@ module _ (words : List Text) (given : List Given) (steps : ℕ) (flags : Flags) 
   check_unread bad (Check found counts read) is = check_excuses_nothing (found, counts) is.0 read is.1 bad
   check_unread bad (Jobs place) is = no_split (codes "jobs") (codes "check") _ _ is.split (check_enters words given steps flags says) refl is.read.found
   check_unread bad (Merge depth place counts read) is = no_split (codes "merge") (codes "check") _ _ _ (check_enters words given steps flags says) refl is.found
+  check_unread bad (Sample samples read printed) is = no_samples (codes "check") _ _ (samples, printed) (check_enters words given steps flags says) refl is.0
 
 pub check_asks : (words : List Text) (steps : ℕ) (flags : Flags) (excuses : Excuses) → IsCheck words steps flags excuses → AsksForOne (found_in words)
 check_asks words steps flags excuses asks = check_asked words asks.given steps flags asks.says excuses asks.excused
@@ -291,7 +331,7 @@ module _ (which : Splitter) (words : List Text) (given : List Given) (steps plac
 
     split_excuses_nothing : (read : declared.Excuses) → AreExcusesIn found.flags (rows_in (found_in words)) read → ExcuseNothing given → ⊥
     split_excuses_nothing read excused bad =
-        nothing_is_read (splitting which) given flags read says.allow_deadlock
+        nothing_is_read (splitting which) given flags read says.allow_deadlock says.main_deadlock says.idle_servers
         (subst (λ flags. AreExcusesIn flags (rows_of_given (splitting which) given) read) split_flags (subst (λ rows. AreExcusesIn found.flags rows read) split_rows excused)) bad
 
     -- its jobs are no deeper than the tree where the words say so
@@ -305,6 +345,9 @@ module _ (which : Splitter) (words : List Text) (given : List Given) (steps plac
         let reads = split_read which words given steps place flags says command found of in
         absurd (omega (arith, past, within, reads.0, reads.1.0))
 
+  split_has_no_samples : (read : Samples × Printed) → AreSamplesOf (found_in words) (Some read) → ⊥
+  split_has_no_samples read found = no_samples (split_name which) _ _ read (split_enters which words given steps place flags says) (split_is_no_sample which) found
+
   split_asks_for : (excuses : Excuses) → AreExcusesOf given flags excuses → place ≤ steps → AsksForSplit (split_name which) (found_in words)
   split_asks_for excuses excused within = record {
     excused = λ found of. record { excuses = excuses; asks = split_excuses (split_name which) found of excuses excused };
@@ -317,12 +360,16 @@ module _ (which : Splitter) (words : List Text) (given : List Given) (steps plac
       (λ command differs. asks_for_no_split command (split_name which) _ _ (split_enters which words given steps place flags says) differs) in
       record {
         explore = λ found of. absurd (split_has_no_options which words given steps place flags says found of);
+        format = λ found of. absurd (split_has_no_options which words given steps place flags says found of);
         job = λ found of line has. absurd (split_has_no_options which words given steps place flags says found of);
         states = λ found of. absurd (split_has_no_options which words given steps place flags says found of);
+        terms = λ found of. absurd (split_has_no_options which words given steps place flags says found of);
         check = λ found of. absurd (split_has_no_check which words given steps place flags says found of);
         jobs = both.0;
         merge = both.1;
-        some = λ none options check jobs merge. split_is_found which words given steps place flags says (neither_found which (found_in words) jobs merge);
+        sample = λ found of. absurd (split_has_no_samples found of);
+        sample_format = λ found of. absurd (split_has_no_samples found of);
+        some = λ none options check jobs merge sample. split_is_found which words given steps place flags says (neither_found which (found_in words) jobs merge);
       }
 
   -- what holds of all that is read of such commands holds of all that is read
@@ -335,6 +382,7 @@ module _ (which : Splitter) (words : List Text) (given : List Given) (steps plac
   split_holds P jobs merge (Check found counts read) is = absurd (split_has_no_check which words given steps place flags says (found, counts) is.0)
   split_holds P jobs merge (Jobs found) is = jobs found is
   split_holds P jobs merge (Merge depth level counts read) is = merge depth level counts read is
+  split_holds P jobs merge (Sample samples read printed) is = absurd (split_has_no_samples (samples, printed) is.0)
 
   nothing_split : ExcuseNothing given ⊎ (steps < place) → (command : Text) (found : Split) (read : declared.Excuses) → IsSplitRead command (found_in words) found read → ⊥
   nothing_split (inl bad) command found read is = split_excuses_nothing command found is.found read is.excused bad
@@ -365,13 +413,89 @@ merge_reads words steps place flags excuses asks =
     let excused = split_excuses merging words asks.given steps place flags asks.says (codes "merge") found is.found excuses asks.excused in
     (reads.0, (reads.1.0, (reads.1.1, excuses_same counts (rows_in (found_in words)) excuses read excused is.excused))))
 
+-- ---- random schedules
+
+module _ (words : List Text) (given : List Given) (samples : Samples) (printed : Printed) (says : AreWordsOfSample words given samples printed) where
+  sample_rows : rows_in (found_in words) ≡ rows_of_given sampling given
+  sample_rows = ap rows_in (sample_enters words given samples printed says)
+
+  module _ (found : Samples × Printed) (of : AreSamplesOf (found_in words) (Some found)) where
+    sample_flags : found.0.flags ≡ samples.flags
+    sample_flags = ap (λ (x : Samples). x.flags) (sample_reads words given samples printed says found of).0
+
+    sample_excuses : (excuses : Excuses) → AreExcusesOf given samples.flags excuses → AskExcuses found.0.flags (rows_in (found_in words)) excuses
+    sample_excuses excuses excused =
+        subst (λ flags. AskExcuses flags (rows_in (found_in words)) excuses) (sym sample_flags)
+        (subst (λ rows. AskExcuses samples.flags rows excuses) (sym sample_rows) (given_asks sampling given samples.flags excuses excused))
+
+    sample_excuses_nothing : (read : declared.Excuses) → AreExcusesIn found.0.flags (rows_in (found_in words)) read → ExcuseNothing given → ⊥
+    sample_excuses_nothing read excused bad =
+        nothing_is_read sampling given samples.flags read says.allow_deadlock says.main_deadlock says.idle_servers
+        (subst (λ flags. AreExcusesIn flags (rows_of_given sampling given) read) sample_flags (subst (λ rows. AreExcusesIn found.0.flags rows read) sample_rows excused)) bad
+
+  -- the format is the one that is given
+  sample_format_found : format_in (rows_in (found_in words)) ≡ slice_get (formats_of given) 0
+  sample_format_found = ap format_in sample_rows ∙ sample_format given
+
+  sample_known : AreFormats (formats_of given) → HasKnownFormat (found_in words)
+  sample_known known = ap is_unknown sample_format_found ∙ format_known (formats_of given) known
+
+  sample_unknown : HasNoFormat (formats_of given) → HasKnownFormat (found_in words) → ⊥
+  sample_unknown none known = true≢false (sym (ap is_unknown sample_format_found ∙ format_unknown (formats_of given) printed.terms says.format none) ∙ known)
+
+  sample_asked : (excuses : Excuses) → AreExcusesOf given samples.flags excuses → AreFormats (formats_of given) → AsksForOne (found_in words)
+  sample_asked excuses excused known = record {
+    explore = λ found of. absurd (sample_has_no_options words given samples printed says found of);
+    format = λ found of. absurd (sample_has_no_options words given samples printed says found of);
+    job = λ found of line has. absurd (sample_has_no_options words given samples printed says found of);
+    states = λ found of. absurd (sample_has_no_options words given samples printed says found of);
+    terms = λ found of. absurd (sample_has_no_options words given samples printed says found of);
+    check = λ found of. absurd (sample_has_no_check words given samples printed says found of);
+    jobs = asks_for_no_split (codes "jobs") (codes "sample") _ _ (sample_enters words given samples printed says) refl;
+    merge = asks_for_no_split (codes "merge") (codes "sample") _ _ (sample_enters words given samples printed says) refl;
+    sample = λ found of. record { excuses = excuses; asks = sample_excuses found of excuses excused };
+    sample_format = λ found of. sample_known known;
+    some = λ none options check jobs merge found. sample_is_found words given samples printed says found;
+  }
+
+  -- what holds of all that is read of such words holds of all that is read
+  sample_holds : (P : Words → Type 0) → ((found : Samples) (read : declared.Excuses) (prints : Printed) → AreSamplesOf (found_in words) (Some (found, prints))
+      → AreExcusesIn found.flags (rows_in (found_in words)) read → HasKnownFormat (found_in words) → P (Sample found read prints)) → (w : Words) → IsReadOf (found_in words) w → P w
+  sample_holds P sample (Replay word) is = absurd (no_schedule words (string_bytes word) (sample_has_no_schedule words given samples printed says) is)
+  sample_holds P sample (Explore options read prints) is = absurd (sample_has_no_options words given samples printed says (options, prints) is.0)
+  sample_holds P sample (ExploreJob options read line) is = absurd (sample_has_no_options words given samples printed says (options, report_alone) is.0)
+  sample_holds P sample (Check found counts read) is = absurd (sample_has_no_check words given samples printed says (found, counts) is.0)
+  sample_holds P sample (Jobs place) is = absurd (no_split (codes "jobs") (codes "sample") _ _ is.split (sample_enters words given samples printed says) refl is.read.found)
+  sample_holds P sample (Merge depth level counts read) is = absurd (no_split (codes "merge") (codes "sample") _ _ _ (sample_enters words given samples printed says) refl is.found)
+  sample_holds P sample (Sample found read prints) is = sample found read prints is.0 is.1.0 is.1.1
+
+  nothing_sampled : ExcuseNothing given ⊎ HasNoFormat (formats_of given) → (found : Samples × Printed) (of : AreSamplesOf (found_in words) (Some found)) (read : declared.Excuses)
+      → AreExcusesIn found.0.flags (rows_in (found_in words)) read → HasKnownFormat (found_in words) → ⊥
+  nothing_sampled (inl bad) found of read excused known = sample_excuses_nothing found of read excused bad
+  nothing_sampled (inr none) found of read excused known = sample_unknown none known
+
+  sample_unread : ExcuseNothing given ⊎ HasNoFormat (formats_of given) → (w : Words) → IsReadOf (found_in words) w → ⊥
+  sample_unread bad = sample_holds (λ w. ⊥) (λ found read prints of excused known. nothing_sampled bad (found, prints) of read excused known)
+
+pub sample_asks : (words : List Text) (samples : Samples) (excuses : Excuses) (printed : Printed) → IsSample words samples excuses printed → AsksForOne (found_in words)
+sample_asks words samples excuses printed asks = sample_asked words asks.given samples printed asks.says excuses asks.excused asks.known
+
+pub sample_is_read : (words : List Text) (samples : Samples) (excuses : Excuses) (printed : Printed) → IsSample words samples excuses printed → (w : Words) → IsReadOf (found_in words) w
+    → AsksSample samples excuses printed w
+sample_is_read words samples excuses printed asks =
+    sample_holds words asks.given samples printed asks.says (AsksSample samples excuses printed)
+    (λ found read prints of excused known. let reads = sample_reads words asks.given samples printed asks.says (found, prints) of in
+    let wanted = sample_excuses words asks.given samples printed asks.says (found, prints) of excuses asks.excused in
+    (reads.0, (excuses_same found.flags (rows_in (found_in words)) excuses read wanted excused, reads.1)))
+
 -- ---- any words
 
 pub nothing_unread : (words : List Text) → AreUnreadable words → (w : Words) → IsReadOf (found_in words) w → ⊥
 nothing_unread words (inl it) w is = explore_unread words it.given it.options it.printed it.says it.bad w is
 nothing_unread words (inr (inl it)) w is = check_unread words it.given it.steps it.flags it.says it.bad w is
 nothing_unread words (inr (inr (inl it))) w is = split_unread listing words it.given it.steps it.place it.flags it.says it.bad w is
-nothing_unread words (inr (inr (inr it))) w is = split_unread merging words it.given it.steps it.place it.flags it.says it.bad w is
+nothing_unread words (inr (inr (inr (inl it)))) w is = split_unread merging words it.given it.steps it.place it.flags it.says it.bad w is
+nothing_unread words (inr (inr (inr (inr it)))) w is = sample_unread words it.given it.samples it.printed it.says it.bad w is
 
 module _ (words : List Text) (none : fault_of command_line words ≡ []) where
   -- what is read of words that are not at fault is in its range
@@ -386,6 +510,7 @@ module _ (words : List Text) (none : fault_of command_line words ≡ []) where
   read_in_range (Merge steps place flags excuses) is =
       let deepest = split_in_range merging words (record { depth = steps; at = place; flags = flags }) none is.found in
       (deepest, is.within, is.excused.in_range)
+  read_in_range (Sample samples excuses printed) is = (samples_in_range words (samples, printed) none is.0, is.1.0.in_range)
 
   -- and they begin with its name
   pub read_is_named : (w : Words) → IsReadOf (found_in words) w → IsNamed words (command_of w)
@@ -395,3 +520,4 @@ module _ (words : List Text) (none : fault_of command_line words ≡ []) where
   read_is_named (Check steps flags excuses) is = check_named words (steps, flags) none is.0
   read_is_named (Jobs place) is = split_named (codes "jobs") words is.split none is.read.found
   read_is_named (Merge steps place flags excuses) is = split_named (codes "merge") words (record { depth = steps; at = place; flags = flags }) none is.found
+  read_is_named (Sample samples excuses printed) is = sample_named words (samples, printed) none is.0

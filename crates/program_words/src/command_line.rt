@@ -2,13 +2,15 @@
 ghost use Rattle.std.specs.Prelude.{◌≡◌, codes, option_map, IfOk, IfErr};
 ghost use Rattle.clap.specs.Values.{kind_of};
 ghost use Rattle.clap.specs.Words.{app_of, found_of, one_of, rows_of, subcommand_rows_of};
-ghost use Rattle.program_words.specs.inside.CommandLine.{IsArgument, IsMadeAs, at_rule, check_command, command_line, depth_rule, explore_command, flag_rule, job_rule, jobs_command, merge_command, nodes_rule, normal_rule, replay_command, split_command, workers_rule};
-ghost use Rattle.program_words.specs.inside.Found.{AreFlagsOf, AreOptionsOf, IsCheckOf, IsPrintedOf, IsSearchOf, IsSplitOf, ReadsNumber, job_in, schedule_in};
+ghost use Rattle.program_words.specs.Words.{delivers_at_once, is_format};
+ghost use Rattle.program_words.specs.inside.CommandLine.{IsArgument, IsMadeAs, at_rule, check_command, command_line, depth_rule, explore_command, flag_rule, format_rule, job_rule, jobs_command, merge_command, nodes_rule, normal_rule, replay_command, runs_rule, sample_command, seed_rule, split_command, workers_rule};
+ghost use Rattle.program_words.specs.inside.Found.{AreFlagsOf, AreOptionsOf, AreSamplesOf, IsCheckOf, IsPrintedOf, IsSearchOf, IsSplitOf, ReadsFlag, ReadsNumber, asks_terms, format_in, is_unknown, job_in, rows_in, schedule_in};
 
 use crate::help;
 use crate::words::Printed;
 use clap::error::ErrorKind;
 use clap::{Arg, ArgAction, ArgMatches, Command, Error, value_parser};
+use search_samples::Samples;
 use std::alloc::Global;
 use tree_findings::{Options, Search};
 use tree_schedules::Delivery;
@@ -28,6 +30,18 @@ const MOST_NODES: i64 = 10_000_000;
 
 // How many threads may explore.
 const MOST_WORKERS: i64 = 16;
+
+// How many random schedules may be followed.
+const MOST_RUNS: i64 = 1_000_000;
+
+// The greatest seed.
+const MOST_SEED: i64 = 4_294_967_295;
+
+// How many are followed where `--runs` is not given.
+const DEFAULT_RUNS: &str = "1000";
+
+// Their seed where `--seed` is not given.
+const DEFAULT_SEED: &str = "1";
 
 // Where a command splits the tree: into the jobs at one level, and what is above them.
 #[derive(Clone, Copy)]
@@ -53,7 +67,8 @@ pub(crate) fn command<'a>(alloc: Global) -> Result<Command<'a>, Error>
         .subcommand(explore_command(alloc)?)?
         .subcommand(check_command(alloc)?)?
         .subcommand(jobs_command(alloc)?)?
-        .subcommand(merge_command(alloc)?)?;
+        .subcommand(merge_command(alloc)?)?
+        .subcommand(sample_command(alloc)?)?;
     Ok(explorer)
 }
 
@@ -86,11 +101,11 @@ fn explore_command<'a>(alloc: Global) -> Result<Command<'a>, Error>
         .arg(workers_option(alloc))?
         .arg(allow_deadlock_flag(alloc))?
         .arg(main_deadlock_flag(alloc))?
+        .arg(idle_servers_flag(alloc))?
         .arg(normal_option(alloc))?
         .arg(strict_access_flag(alloc))?
-        .arg(flag(
+        .arg(explain_flag(
             alloc,
-            "explain",
             "Prints below each finding what its schedule does, and\nsays which schedules the result is about",
         ))?
         .arg(flag(
@@ -104,11 +119,8 @@ fn explore_command<'a>(alloc: Global) -> Result<Command<'a>, Error>
             "states",
             "Searches by states, level by level, in place of the tree",
         ))?
-        .arg(flag(
-            alloc,
-            "at-once",
-            "Delivers signals at once, and searches by states",
-        ))?;
+        .arg(at_once_flag(alloc, "Delivers signals at once, and searches by states"))?
+        .arg(format_option(alloc))?;
     Ok(explore)
 }
 
@@ -123,6 +135,7 @@ fn check_command<'a>(alloc: Global) -> Result<Command<'a>, Error>
         .arg(depth_option(alloc))?
         .arg(allow_deadlock_flag(alloc))?
         .arg(main_deadlock_flag(alloc))?
+        .arg(idle_servers_flag(alloc))?
         .arg(normal_option(alloc))?
         .arg(strict_access_flag(alloc))?;
     Ok(check)
@@ -171,9 +184,32 @@ fn split_command<'a>(
         .arg(at_option(alloc))?
         .arg(allow_deadlock_flag(alloc))?
         .arg(main_deadlock_flag(alloc))?
+        .arg(idle_servers_flag(alloc))?
         .arg(normal_option(alloc))?
         .arg(strict_access_flag(alloc))?;
     Ok(split)
+}
+
+// `sample` and its options.
+fn sample_command<'a>(alloc: Global) -> Result<Command<'a>, Error>
+    ensures line { IfOk result (λ made. IsMadeAs sample_command made) }
+    ensures memory { IfErr result (λ e. kind_of e ≡ ErrorKind.OutOfMemory) }
+{
+    let sample = Command::new(alloc, "sample")
+        .about("Follows random schedules up to a depth, and reports their errors")
+        .after_help(help::OF_SAMPLE)
+        .arg(depth_option(alloc))?
+        .arg(runs_option(alloc))?
+        .arg(seed_option(alloc))?
+        .arg(allow_deadlock_flag(alloc))?
+        .arg(main_deadlock_flag(alloc))?
+        .arg(idle_servers_flag(alloc))?
+        .arg(normal_option(alloc))?
+        .arg(strict_access_flag(alloc))?
+        .arg(explain_flag(alloc, "Prints below each finding what its schedule does"))?
+        .arg(at_once_flag(alloc, "Delivers signals at once"))?
+        .arg(format_option(alloc))?;
+    Ok(sample)
 }
 
 // `--depth N`.
@@ -228,6 +264,32 @@ fn workers_option<'a>(alloc: Global) -> Arg<'a>
         .help("How many threads explore, from 1 to 16")
 }
 
+// `--runs R`.
+fn runs_option<'a>(alloc: Global) -> Arg<'a>
+    ensures { IsArgument runs_rule result }
+{
+    Arg::new(alloc, "runs")
+        .long("runs")
+        .action(ArgAction::Set)
+        .value_name("R")
+        .value_parser(value_parser!(u64).range(1..=MOST_RUNS))
+        .default_value(DEFAULT_RUNS)
+        .help("How many random schedules are followed,\nfrom 1 to 1000000")
+}
+
+// `--seed S`.
+fn seed_option<'a>(alloc: Global) -> Arg<'a>
+    ensures { IsArgument seed_rule result }
+{
+    Arg::new(alloc, "seed")
+        .long("seed")
+        .action(ArgAction::Set)
+        .value_name("S")
+        .value_parser(value_parser!(u64).range(0..=MOST_SEED))
+        .default_value(DEFAULT_SEED)
+        .help("From which number the schedules are drawn,\nfrom 0 to 4294967295")
+}
+
 // `--allow-deadlock`.
 fn allow_deadlock_flag<'a>(alloc: Global) -> Arg<'a>
     ensures { IsArgument (flag_rule (codes "allow-deadlock")) result }
@@ -247,6 +309,17 @@ fn main_deadlock_flag<'a>(alloc: Global) -> Arg<'a>
         alloc,
         "main-deadlock",
         "Counts a deadlock as an error only where P waits",
+    )
+}
+
+// `--idle-servers`.
+fn idle_servers_flag<'a>(alloc: Global) -> Arg<'a>
+    ensures { IsArgument (flag_rule (codes "idle-servers")) result }
+{
+    flag(
+        alloc,
+        "idle-servers",
+        "Counts a deadlock as an error only where P waits; and\nmessages that stay unread, where P has ended",
     )
 }
 
@@ -270,7 +343,20 @@ fn job_option<'a>(alloc: Global) -> Arg<'a>
         .action(ArgAction::Set)
         .value_name("LINE")
         .help(
-            "Visits the nodes of one job only, whose LINE `jobs`\nprints; not with --explain, and not with --cover",
+            "Visits the nodes of one job only, whose LINE `jobs`\nprints; not with --explain, --cover or --format terms",
+        )
+}
+
+// `--format FORM`.
+fn format_option<'a>(alloc: Global) -> Arg<'a>
+    ensures { IsArgument format_rule result }
+{
+    Arg::new(alloc, "format")
+        .long("format")
+        .action(ArgAction::Set)
+        .value_name("FORM")
+        .help(
+            "How the report is written: `text`, or `terms` for one\nErlang term a line [default: text]",
         )
 }
 
@@ -283,6 +369,20 @@ fn strict_access_flag<'a>(alloc: Global) -> Arg<'a>
         "strict-access",
         "Counts a table call as an error if it is refused because\nof who makes it",
     )
+}
+
+// `--explain`, of which each command says what it prints.
+fn explain_flag<'a>(alloc: Global, help: &'a str) -> Arg<'a>
+    ensures { IsArgument (flag_rule (codes "explain")) result }
+{
+    flag(alloc, "explain", help)
+}
+
+// `--at-once`, of which each command says what comes of it.
+fn at_once_flag<'a>(alloc: Global, help: &'a str) -> Arg<'a>
+    ensures { IsArgument (flag_rule (codes "at-once")) result }
+{
+    flag(alloc, "at-once", help)
 }
 
 // An option without a value.
@@ -340,11 +440,78 @@ pub(crate) fn found_split(matches: &ArgMatches<'_>, command: &str) -> Option<Spl
     })
 }
 
+/// How random schedules are taken, and what is printed of them.
+pub(crate) fn found_samples(matches: &ArgMatches<'_>) -> Option<(Samples, Printed)>
+    ensures { AreSamplesOf (subcommand_rows_of matches.now) result }
+{
+    let given = matches.subcommand_matches("sample")?;
+    let depth = found_number(given, "depth")?;
+    let runs = found_number(given, "runs")?;
+    let seed = found_number(given, "seed")?;
+    let samples = Samples {
+        depth,
+        runs,
+        seed,
+        delivery: found_delivery(given),
+        flags: found_flags(given),
+    };
+    let printed = Printed {
+        explained: given.get_flag("explain"),
+        cover: false,
+        terms: asks_terms(format_of(given)),
+    };
+    Some((samples, printed))
+}
+
 /// The line of the job that is explored alone.
 pub(crate) fn found_job<'a>(matches: &ArgMatches<'a>) -> Option<&'a str>
     ensures { option_map (λ line. line.now) result ≡ job_in (subcommand_rows_of matches.now) }
 {
     matches.subcommand_matches("explore")?.get_str("job")
+}
+
+/// The text of the format that is given of the command that was found.
+pub(crate) fn found_format<'a>(matches: &ArgMatches<'a>) -> Option<&'a str>
+    ensures { option_map (λ text. text.now) result ≡ format_in (rows_in (subcommand_rows_of matches.now)) }
+{
+    match matches.subcommand() {
+        Some((_, given)) => format_of(given),
+        None => None,
+    }
+}
+
+/// Whether this format, if there is one, is neither `text` nor `terms`.
+pub(crate) fn is_unknown(format: Option<&str>) -> bool
+    ensures { result ≡ is_unknown (option_map (λ text. text.now) format.entry) }
+{
+    match format {
+        Some(text) => !is_format(text),
+        None => false,
+    }
+}
+
+// Whether the text is that of a format.
+fn is_format(text: &str) -> bool
+    ensures { result ≡ is_format text.now }
+{
+    text == "text" || text == "terms"
+}
+
+// Whether this format, if there is one, is that of terms.
+fn asks_terms(format: Option<&str>) -> bool
+    ensures { result ≡ asks_terms (option_map (λ text. text.now) format.entry) }
+{
+    match format {
+        Some(text) => text == "terms",
+        None => false,
+    }
+}
+
+// The text of `--format`.
+fn format_of<'a>(matches: &ArgMatches<'a>) -> Option<&'a str>
+    ensures { option_map (λ text. text.now) result ≡ format_in (rows_of (found_of matches.now)) }
+{
+    matches.get_str("format")
 }
 
 // What counts as an error.
@@ -354,6 +521,7 @@ fn found_flags(matches: &ArgMatches<'_>) -> Flags
     Flags {
         allow_deadlock: matches.get_flag("allow-deadlock"),
         strict_access: matches.get_flag("strict-access"),
+        idle_servers: matches.get_flag("idle-servers"),
     }
 }
 
@@ -372,6 +540,18 @@ fn found_search(matches: &ArgMatches<'_>) -> Search
     }
 }
 
+// When signals are delivered in random schedules.
+fn found_delivery(matches: &ArgMatches<'_>) -> Delivery
+    ensures { ReadsFlag (one_of (codes "at-once") (rows_of (found_of matches.now))) (delivers_at_once result) }
+{
+    let at_once = matches.get_flag("at-once");
+    if at_once {
+        Delivery::AtOnce
+    } else {
+        Delivery::AnyTime
+    }
+}
+
 // What an exploration prints.
 fn found_printed(matches: &ArgMatches<'_>) -> Printed
     ensures { IsPrintedOf (rows_of (found_of matches.now)) result }
@@ -379,6 +559,7 @@ fn found_printed(matches: &ArgMatches<'_>) -> Printed
     Printed {
         explained: matches.get_flag("explain"),
         cover: matches.get_flag("cover"),
+        terms: asks_terms(format_of(matches)),
     }
 }
 

@@ -1,5 +1,5 @@
-// What a command line excuses: the terms of its texts, and its flag.
-ghost use Rattle.std.specs.Prelude.{◌≡◌, ◌≤◌, List, map, IfOk, IfErr, IsErr};
+// What a command line excuses: the terms of its texts, and its flags.
+ghost use Rattle.std.specs.Prelude.{◌≡◌, ◌≤◌, ◌&&◌, ◌||◌, List, map, IfOk, IfErr, IsErr};
 ghost use Rattle.clap.specs.Values.{kind_of};
 ghost use Rattle.clap.specs.Words.{found_of, rows_of, subcommand_rows_of};
 ghost use Rattle.term_core.specs.Meaning.{Meaning, node_count};
@@ -23,6 +23,10 @@ use world_identities::Flags;
 // How many terms may be given.
 const MOST_NORMAL: usize = 16;
 
+// What is said where more than one flag of deadlocks is given.
+const TWO_OF_DEADLOCKS: &str =
+    "only one of the arguments '--allow-deadlock', '--main-deadlock' and '--idle-servers' can be used";
+
 /// What the command that was found excuses, together with its flags.
 pub(crate) fn read_excuses(
     alloc: Global,
@@ -44,17 +48,29 @@ fn read_given(alloc: Global, given: &ArgMatches<'_>, flags: Flags) -> Result<Exc
     ensures refused { IfErr result (λ e. (excuses : Excused) → AskExcuses flags (rows_of (found_of given.now)) excuses → kind_of e ≡ ErrorKind.OutOfMemory) }
 {
     let main_deadlock = given.get_flag("main-deadlock");
-    if main_deadlock && flags.allow_deadlock {
-        return Err(Command::new(alloc, NAME).error(
-            ErrorKind::ArgumentConflict,
-            "the argument '--main-deadlock' cannot be used with '--allow-deadlock'",
-        )?);
+    let idle_servers = given.get_flag("idle-servers");
+    if are_two(flags.allow_deadlock, main_deadlock, idle_servers) {
+        return Err(Command::new(alloc, NAME).error(ErrorKind::ArgumentConflict, TWO_OF_DEADLOCKS)?);
     }
     let normal = read_normal(alloc, given)?;
     Ok(Excuses {
-        main_deadlock,
+        main_deadlock: is_main_excused(main_deadlock, idle_servers),
         normal,
     })
+}
+
+// Whether more than one of the flags of deadlocks is given.
+fn are_two(allow_deadlock: bool, main_deadlock: bool, idle_servers: bool) -> bool
+    ensures { result ≡ ((allow_deadlock && (main_deadlock || idle_servers)) || (main_deadlock && idle_servers)) }
+{
+    (allow_deadlock && (main_deadlock || idle_servers)) || (main_deadlock && idle_servers)
+}
+
+// Whether a deadlock without the first process is normal: either of these flags makes it so.
+fn is_main_excused(main_deadlock: bool, idle_servers: bool) -> bool
+    ensures { result ≡ (main_deadlock || idle_servers) }
+{
+    main_deadlock || idle_servers
 }
 
 // The terms that are given.

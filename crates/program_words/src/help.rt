@@ -10,10 +10,11 @@ no module. A refusal is one line on standard error.
 Statuses:
   0   the schedule was replayed; or all nodes were visited and none shows an
       error; or the cover is good; or the jobs were listed
-  1   all nodes were visited, and some show errors
+  1   all nodes were visited, and some show errors, or some random schedules do
   2   the module, the schedule, the cover, the job or a report was refused, or
       the input could not be read
-  3   memory ran out, or not all nodes were visited
+  3   memory ran out, or not all nodes were visited, or random schedules show no
+      error
   4   the output could not be written
   64  the words on the command line were refused, or ask for this help
 
@@ -43,8 +44,10 @@ pub(crate) const OF_EXPLORE: &str = "\
 Standard input: the text of one module, at most 1048576 bytes.
 Standard output: the report, each finding with a schedule that `replay` takes.
 A TERM is written as the report prints it: 'shutdown' or {'error',1}. In it the
-atom '_' stands for any term: {'error','_'}. What --normal or --main-deadlock
-takes as normal is still listed, as normal, and does not count as an error.
+atom '_' stands for any term: {'error','_'}. What --normal, --main-deadlock or
+--idle-servers takes as normal is still listed, as normal, and does not count as
+an error. With --idle-servers, messages in the mailboxes of processes that wait
+are an error of their own, where P has ended and no step is enabled.
 A LINE is one that `jobs` prints for this module and depth. With --job only the
 nodes of that job are visited: its own node, and those below it.
 With --states each state is expanded once, and --nodes limits the states. The
@@ -52,6 +55,8 @@ first line of the report then tells how many there are. --at-once searches so
 too, through the schedules in which signals are delivered at once: no process
 takes a turn while a delivery is enabled, and the first delivery comes next.
 --states and --at-once are not for --cover or --job, which are of the tree.
+With --format terms the report is Erlang terms, one a line, as `file:consult/1`
+reads them. They hold what --explain shows, and are not for --cover or --job.
 
 Statuses:
   0   all nodes were visited, and none shows an error
@@ -108,8 +113,8 @@ pub(crate) const OF_MERGE: &str = "\
 Standard input: reports of `explore`, one after another. The first is that of the
 tree to depth D - 1, unless D is 0. Then come those of the jobs at depth D, in
 any order, each explored with --job to depth N. All of them were made with the
-options given here that say what counts as an error, and none with --explain or
---cover.
+options given here that say what counts as an error, and none with --explain,
+--cover or --format terms.
 Standard output: one report. It is that of the tree to depth N if no job is
 missing; the reports do not tell how many jobs there are.
 
@@ -128,3 +133,31 @@ Example:
     schedule_explorer explore --depth 20 --job \"$JOB\" < m.core >> m.reports
   done < m.jobs
   schedule_explorer merge --depth 20 --at 4 < m.reports";
+
+/// Of `sample`.
+pub(crate) const OF_SAMPLE: &str = "\
+Standard input: the text of one module, at most 1048576 bytes.
+Standard output: the report, each finding with a schedule that `replay` takes.
+R schedules are followed, each until it has N steps or no step may be taken, and
+what they show on the way is listed. At each place one of the steps that may be
+taken there comes next, each as likely as the others. The same S gives the same
+schedules. Others may show other errors, so no report of `sample` is clean.
+A TERM is written as the report prints it: 'shutdown' or {'error',1}. In it the
+atom '_' stands for any term: {'error','_'}. What --normal, --main-deadlock or
+--idle-servers takes as normal is still listed, as normal, and does not count as
+an error. With --idle-servers, messages in the mailboxes of processes that wait
+are an error of their own, where P has ended and no step is enabled.
+With --at-once no process takes a turn while a delivery is enabled, and the first
+delivery comes next.
+With --format terms the report is Erlang terms, one a line, as `file:consult/1`
+reads them. They hold what --explain shows.
+
+Statuses:
+  1   some of the schedules show errors
+  2   the module was refused, or the input could not be read
+  3   memory ran out, or none of the schedules shows an error
+  4   the output could not be written
+  64  the words on the command line were refused, or ask for this help
+
+Example:
+  schedule_explorer sample --depth 200 --runs 5000 --explain < m.core";

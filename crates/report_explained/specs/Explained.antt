@@ -1,4 +1,4 @@
--- The explained report: below each finding come the lines of its schedule and, at a deadlock, which processes wait.
+-- The explained report: below each finding come the lines of its schedule and, at a deadlock or at unread messages, which processes wait.
 use Rattle.std.specs.Prelude.{◌≡◌, ℕ, ◌+◌, Bool, false, List, [], ◌∷◌, ◌++◌, length, codes, Option, Some, Result, Ok, Err}
 use Rattle.term_core.specs.Meaning.{Meaning}
 use Rattle.term_core.specs.Stream.{AppendsBeginning, BreaksOff, WritesAll}
@@ -8,7 +8,7 @@ use Rattle.world_model.specs.Mailboxes.{mailbox_in}
 use Rattle.world_model.specs.Names.{Pid}
 use Rattle.world_model.specs.Requests.{Program}
 use Rattle.world_model.specs.Run.{run}
-use Rattle.world_model.specs.Shown.{Identity, Deadlock}
+use Rattle.world_model.specs.Shown.{Identity, Deadlock, Unread}
 use Rattle.world_model.specs.World.{contents}
 use Rattle.tree_coverage.specs.Findings.{Finding, Findings}
 use Rattle.tree_excuses.specs.Excuses.{Excuses, counted, taken}
@@ -18,6 +18,8 @@ use Rattle.world_event_text.specs.EventText.{text_of_event}
 use Rattle.report_text.specs.declared.visited.Visited.{Visited}
 use Rattle.report_text.specs.declared.visited.Visited.TheVariants.{Nodes}
 use Rattle.report_text.specs.ReportText.{explained_first_line_by, explained_last_line, findings_in, text_of_counts, text_of_finding}
+use Rattle.report_text.specs.SampleText.{sample_first_line, sample_last_line}
+use Rattle.report_text.specs.declared.sample_lines.Sampled.{Sampled}
 use Rattle.world_replay.specs.Replay.{reached}
 use Rattle.report_explained.specs.declared.explain_fault.ExplainFault.{ExplainFault}
 use Rattle.report_explained.specs.declared.explain_fault.ExplainFault.TheVariants.{Memory, Write}
@@ -42,9 +44,10 @@ abbrev pub text_of_all_waiting : History → List Pid → List ℕ
 text_of_all_waiting h [] = []
 text_of_all_waiting h (p ∷ ps) = indented (text_of_waiting p (mailbox_in (contents h) p)) ++ text_of_all_waiting h ps
 
--- at a deadlock its processes wait
+-- at a deadlock its processes wait, and so do those that have messages which they do not take
 abbrev pub text_of_waits : History → Identity → List ℕ
 text_of_waits h (Deadlock processes) = text_of_all_waiting h processes
+text_of_waits h (Unread processes) = text_of_all_waiting h processes
 text_of_waits h identity = []
 
 -- what comes below a finding: what its schedule did, and which processes wait then
@@ -78,6 +81,10 @@ text_of_explained_report_by visited a depth x outcome =
 -- of the tree
 abbrev pub text_of_explained_report : Program → ℕ → Excuses → Outcome → List ℕ
 text_of_explained_report a depth x outcome = text_of_explained_report_by Nodes a depth x outcome
+
+-- what so many random schedules show
+abbrev pub text_of_explained_sample : Sampled → Program → Excuses → Findings → List ℕ
+text_of_explained_sample sampled a x findings = sample_first_line sampled ++ (explained_findings a x findings ++ (text_of_counts x findings ++ sample_last_line x findings))
 
 -- ---- what was written of such a text, which takes memory to be made
 

@@ -1,4 +1,5 @@
-// The explained report: below each finding come the lines of its schedule and, at a deadlock, which processes wait.
+// The explained report: below each finding come the lines of its schedule and, at a deadlock or at unread messages, which
+// processes wait.
 ghost use Rattle.std.specs.Prelude.{◌≡◌, [], false, OnOk, codes};
 ghost use Rattle.term_core.specs.Stream.{Writes};
 ghost use Rattle.tree_excuses.specs.Excuses.{excuses_in};
@@ -27,7 +28,8 @@ use world_core::{World, WorldFault};
 use world_event_text::write_event;
 use world_plans::Event;
 
-/// Below a finding whose schedule runs come the lines of that run and, at a deadlock, which processes wait after it.
+/// Below a finding whose schedule runs come the lines of that run and, at a deadlock or at unread messages, which processes
+/// wait after it.
 pub fn explanations_are_of_runs()
     ensures { ExplanationsAreOfRuns }
 {}
@@ -37,8 +39,8 @@ pub fn explanations_are_of_runs()
 /// schedules the result is about: all, all that deliver signals at once, or those up to the depth. The errors that
 /// count come first, then the refusals, and then the errors that are taken as normal. Below each finding come the lines
 /// of its schedule, each after four blanks: they come from a new world of the module, in which the steps are taken one
-/// after another, up to one that is not enabled. Below these comes, at a deadlock, a line for each of its processes,
-/// with the messages in its mailbox.
+/// after another, up to one that is not enabled. Below these comes, at a deadlock or at unread messages, a line for each
+/// of its processes, with the messages in its mailbox.
 ///
 /// # Errors
 ///
@@ -63,9 +65,9 @@ pub fn write_explained_report<W: Sink>(
     Ok(())
 }
 
-// Writes the errors that count, then the refusals, and then the errors that are taken as normal, each with what comes
-// below it.
-fn write_explained_findings<W: Sink>(
+/// Writes the errors that count, then the refusals, and then the errors that are taken as normal, each with what comes
+/// below it.
+pub(crate) fn write_explained_findings<W: Sink>(
     alloc: Global,
     program: &Module,
     excuses: &Excuses,

@@ -1,4 +1,5 @@
-// Which processes wait at a deadlock, and which messages are in their mailboxes then. No write takes memory.
+// Which processes wait at a deadlock or with unread messages, and which messages are in their mailboxes then. No write
+// takes memory.
 ghost use Rattle.std.specs.Prelude.{◌≡◌, false};
 ghost use Rattle.term_core.specs.Stream.{Writes};
 ghost use Rattle.term_core.specs.Term.{meaning_of};
@@ -15,7 +16,8 @@ use term_core::{Pid, Sink, Term, WriteFault, write_all, write_pid, write_term};
 use world_core::World;
 use world_identities::Identity;
 
-/// Writes a line for each process of a deadlock, and nothing where something else was found.
+/// Writes a line for each process of a deadlock, or of those with unread messages, and nothing where something else was
+/// found.
 pub(crate) fn write_waits<W: Sink>(
     world: &World<'_>,
     identity: &Identity,
@@ -27,6 +29,7 @@ pub(crate) fn write_waits<W: Sink>(
 {
     match identity {
         Identity::Deadlock(processes) => write_all_waiting(world, processes, sink),
+        Identity::Unread(pids) => write_all_waiting(world, pids, sink),
         _ => Ok(()),
     }
 }

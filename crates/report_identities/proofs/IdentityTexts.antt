@@ -15,7 +15,7 @@ use Rattle.term_reader.proofs.OneTerm.{term_injective}
 use Rattle.term_reader.specs.Height.{height}
 use Rattle.term_reader.specs.Lawful.{AreNumbers, IsLawful}
 use Rattle.world_model.specs.Names.{Pid}
-use Rattle.world_model.specs.Shown.{Identity, End, Deadlock, Runaway, RefusedCall}
+use Rattle.world_model.specs.Shown.{Identity, End, Deadlock, Runaway, RefusedCall, Unread}
 use Rattle.world_model.specs.declared.rule.Rule.{Rule}
 use Rattle.world_event_text.specs.CallText.{text_of_arguments}
 use Rattle.report_text.specs.IdentityText.{text_of_identity, text_of_refused_call}
@@ -40,12 +40,14 @@ IsOfOne (End p reason) = Unit {0}
 IsOfOne (Deadlock processes) = ⊥
 IsOfOne (Runaway p) = Unit {0}
 IsOfOne (RefusedCall p request kind arguments rule told) = Unit {0}
+IsOfOne (Unread processes) = ⊥
 
 abbrev pub process_of : Identity → Pid
 process_of (End p reason) = p
 process_of (Deadlock processes) = []
 process_of (Runaway p) = p
 process_of (RefusedCall p request kind arguments rule told) = p
+process_of (Unread processes) = []
 
 -- what follows the process
 abbrev pub behind_process : Identity → List ℕ
@@ -53,6 +55,7 @@ behind_process (End p reason) = codes " ends " ++ text_of_term reason
 behind_process (Deadlock processes) = []
 behind_process (Runaway p) = codes " runs away"
 behind_process (RefusedCall p request kind arguments rule told) = codes " request " ++ text_of_told_call request kind arguments rule told
+behind_process (Unread processes) = []
 
 pub refused_call_text : (p : Pid) (request : ℕ) (kind : CallKind) (arguments : List Meaning) (rule : Rule) (told : Option Pid) → text_of_refused_call p request kind arguments rule told ≡ text_of_pid p ++ (codes " request " ++ text_of_told_call request kind arguments rule told)
 refused_call_text p request kind arguments rule told = ap (λ w. text_of_pid p ++ (codes " request " ++ (decimal request ++ (codes " " ++ w)))) (call_text kind arguments rule told)
@@ -62,18 +65,21 @@ text_is (End p reason) one = refl
 text_is (Deadlock processes) one = absurd one
 text_is (Runaway p) one = refl
 text_is (RefusedCall p request kind arguments rule told) one = refused_call_text p request kind arguments rule told
+text_is (Unread processes) one = absurd one
 
 behind_begins : (i : Identity) → IsOfOne i → Begins 32 (behind_process i)
 behind_begins (End p reason) one = refl
 behind_begins (Deadlock processes) one = absurd one
 behind_begins (Runaway p) one = refl
 behind_begins (RefusedCall p request kind arguments rule told) one = refl
+behind_begins (Unread processes) one = absurd one
 
 lawful_process : (i : Identity) → IsLawfulIdentity i → AreNumbers (process_of i)
 lawful_process (End p reason) l = l.0
 lawful_process (Deadlock processes) l = tt
 lawful_process (Runaway p) l = l
 lawful_process (RefusedCall p request kind arguments rule told) l = l.process
+lawful_process (Unread processes) l = tt
 
 -- a text that begins with a process is of one
 begins_process : (p : Pid) (rest : List ℕ) (i : Identity) → text_of_pid p ++ rest ≡ text_of_identity i → IsOfOne i
@@ -81,6 +87,7 @@ begins_process q rest (End p reason) e = tt
 begins_process q rest (Deadlock processes) e = omega (arith, ap (λ bs. get_or bs 0 0) e)
 begins_process q rest (Runaway p) e = tt
 begins_process q rest (RefusedCall p request kind arguments rule told) e = tt
+begins_process q rest (Unread processes) e = omega (arith, ap (λ bs. get_or bs 0 0) e)
 
 -- a process and what follows it, as a text has them
 record IsOf (p : Pid) (rest : List ℕ) (i : Identity) : Type 0 where
@@ -121,7 +128,11 @@ one_shown (RefusedCall p m d x y u) (RefusedCall q n c a b t) l k v w e f = one_
 one_shown (End p r) (Deadlock qs) l k v w e f = absurd w
 one_shown (Runaway p) (Deadlock qs) l k v w e f = absurd w
 one_shown (RefusedCall p m d x y u) (Deadlock qs) l k v w e f = absurd w
+one_shown (End p r) (Unread qs) l k v w e f = absurd w
+one_shown (Runaway p) (Unread qs) l k v w e f = absurd w
+one_shown (RefusedCall p m d x y u) (Unread qs) l k v w e f = absurd w
 one_shown (Deadlock ps) j l k v w e f = absurd v
+one_shown (Unread ps) j l k v w e f = absurd v
 
 one_of_one : (i j : Identity) → IsLawfulIdentity i → IsLawfulIdentity j → IsOfOne i → text_of_identity i ≡ text_of_identity j → i ≡ j
 one_of_one i j l k v e =
@@ -133,6 +144,14 @@ one_deadlock ps (End q s) l k e = absurd (omega (arith, differ 0 _ _ e))
 one_deadlock ps (Deadlock qs) l k e = ap Deadlock (processes_injective ps qs l k.1 (append_cancel_left (codes "deadlock of") (text_of_processes ps) (text_of_processes qs) e))
 one_deadlock ps (Runaway q) l k e = absurd (omega (arith, differ 0 _ _ e))
 one_deadlock ps (RefusedCall q n c a b t) l k e = absurd (omega (arith, differ 0 _ _ e))
+one_deadlock ps (Unread qs) l k e = absurd (omega (arith, differ 0 _ _ e))
+
+one_unread : (ps : List Pid) (j : Identity) → AllByRecursion AreNumbers ps → IsLawfulIdentity j → text_of_identity (Unread ps) ≡ text_of_identity j → Unread ps ≡ j
+one_unread ps (End q s) l k e = absurd (omega (arith, differ 0 _ _ e))
+one_unread ps (Deadlock qs) l k e = absurd (omega (arith, differ 0 _ _ e))
+one_unread ps (Runaway q) l k e = absurd (omega (arith, differ 0 _ _ e))
+one_unread ps (RefusedCall q n c a b t) l k e = absurd (omega (arith, differ 0 _ _ e))
+one_unread ps (Unread qs) l k e = ap Unread (processes_injective ps qs l k.1 (append_cancel_left (codes "unread messages of") (text_of_processes ps) (text_of_processes qs) e))
 
 -- a text says one identity alone
 pub one_identity : (i j : Identity) → IsLawfulIdentity i → IsLawfulIdentity j → text_of_identity i ≡ text_of_identity j → i ≡ j
@@ -140,6 +159,7 @@ one_identity (End p r) j l k e = one_of_one (End p r) j l k tt e
 one_identity (Deadlock ps) j l k e = one_deadlock ps j l.1 k e
 one_identity (Runaway p) j l k e = one_of_one (Runaway p) j l k tt e
 one_identity (RefusedCall p m d x y u) j l k e = one_of_one (RefusedCall p m d x y u) j l k tt e
+one_identity (Unread ps) j l k e = one_unread ps j l.1 k e
 
 -- what is read is the identity with this text, and the text of an identity is refused only for its terms or for lack of memory
 pub reads_only : {V : Type 0} (identity : V → Identity) (text : List ℕ) (result : Result V IdentityFault)
@@ -172,6 +192,7 @@ of_deadlock text (End p reason) X l e only = absurd (omega (arith, differ 0 _ _ 
 of_deadlock text (Deadlock ps) X l e only = only ps l.0 l.1 (append_cancel_left (codes "deadlock of") text (text_of_processes ps) e)
 of_deadlock text (Runaway p) X l e only = absurd (omega (arith, differ 0 _ _ e))
 of_deadlock text (RefusedCall p n k a r t) X l e only = absurd (omega (arith, differ 0 _ _ e))
+of_deadlock text (Unread ps) X l e only = absurd (omega (arith, differ 0 _ _ e))
 
 pub refused_deadlock : (text : List ℕ) (fault : IdentityFault) → ((ps : List Pid) → AllByRecursion AreNumbers ps → text ≡ text_of_processes ps → fault ≡ Memory) → (i : Identity) → IsLawfulIdentity i → codes "deadlock of" ++ text ≡ text_of_identity i → MayRefuse (height_in i) fault
 refused_deadlock text fault only i l e = for_memory i fault (of_deadlock text i (fault ≡ Memory) l e (λ ps some all f. only ps all f))
@@ -179,16 +200,32 @@ refused_deadlock text fault only i l e = for_memory i fault (of_deadlock text i 
 pub no_deadlock : (text : List ℕ) → text ≡ [] → (i : Identity) → IsLawfulIdentity i → codes "deadlock of" ++ text ≡ text_of_identity i → ⊥
 no_deadlock text none i l e = of_deadlock text i ⊥ l e (λ ps some all f. some_text ps some (sym none ∙ f))
 
--- a text that begins as no deadlock does, begins with a process
-of_others : (text : List ℕ) → ((rest : List ℕ) → text ≡ codes "deadlock of" ++ rest → ⊥) → (i : Identity) → text ≡ text_of_identity i → IsOfOne i
-of_others text other (End p reason) e = tt
-of_others text other (Deadlock ps) e = absurd (other (text_of_processes ps) e)
-of_others text other (Runaway p) e = tt
-of_others text other (RefusedCall p n k a r t) e = tt
+-- and one that begins as unread messages do, is that of these
+of_unread : (text : List ℕ) (i : Identity) (X : Type 0) → IsLawfulIdentity i → codes "unread messages of" ++ text ≡ text_of_identity i → ((ps : List Pid) → 0 < length ps → AllByRecursion AreNumbers ps → text ≡ text_of_processes ps → X) → X
+of_unread text (End p reason) X l e only = absurd (omega (arith, differ 0 _ _ e))
+of_unread text (Deadlock ps) X l e only = absurd (omega (arith, differ 0 _ _ e))
+of_unread text (Runaway p) X l e only = absurd (omega (arith, differ 0 _ _ e))
+of_unread text (RefusedCall p n k a r t) X l e only = absurd (omega (arith, differ 0 _ _ e))
+of_unread text (Unread ps) X l e only = only ps l.0 l.1 (append_cancel_left (codes "unread messages of") text (text_of_processes ps) e)
 
-pub refused_process : (text : List ℕ) (fault : IdentityFault) → ((rest : List ℕ) → text ≡ codes "deadlock of" ++ rest → ⊥) → ((p : Pid) → AreNumbers p → front 32 text ≡ text_of_pid p → fault ≡ Memory) → (i : Identity) → IsLawfulIdentity i → text ≡ text_of_identity i → MayRefuse (height_in i) fault
-refused_process text fault other only i l e =
-    let one = of_others text other i e in
+pub refused_unread : (text : List ℕ) (fault : IdentityFault) → ((ps : List Pid) → AllByRecursion AreNumbers ps → text ≡ text_of_processes ps → fault ≡ Memory) → (i : Identity) → IsLawfulIdentity i → codes "unread messages of" ++ text ≡ text_of_identity i → MayRefuse (height_in i) fault
+refused_unread text fault only i l e = for_memory i fault (of_unread text i (fault ≡ Memory) l e (λ ps some all f. only ps all f))
+
+pub no_unread : (text : List ℕ) → text ≡ [] → (i : Identity) → IsLawfulIdentity i → codes "unread messages of" ++ text ≡ text_of_identity i → ⊥
+no_unread text none i l e = of_unread text i ⊥ l e (λ ps some all f. some_text ps some (sym none ∙ f))
+
+-- a text that begins as neither does, begins with a process
+of_others : (text : List ℕ) → ((rest : List ℕ) → text ≡ codes "deadlock of" ++ rest → ⊥) → ((rest : List ℕ) → text ≡ codes "unread messages of" ++ rest → ⊥) → (i : Identity) → text ≡ text_of_identity i → IsOfOne i
+of_others text dead unread (End p reason) e = tt
+of_others text dead unread (Deadlock ps) e = absurd (dead (text_of_processes ps) e)
+of_others text dead unread (Runaway p) e = tt
+of_others text dead unread (RefusedCall p n k a r t) e = tt
+of_others text dead unread (Unread ps) e = absurd (unread (text_of_processes ps) e)
+
+pub refused_process : (text : List ℕ) (fault : IdentityFault) → ((rest : List ℕ) → text ≡ codes "deadlock of" ++ rest → ⊥) → ((rest : List ℕ) → text ≡ codes "unread messages of" ++ rest → ⊥) → ((p : Pid) → AreNumbers p → front 32 text ≡ text_of_pid p → fault ≡ Memory)
+    → (i : Identity) → IsLawfulIdentity i → text ≡ text_of_identity i → MayRefuse (height_in i) fault
+refused_process text fault dead unread only i l e =
+    let one = of_others text dead unread i e in
     let p = process_of i in
     let h = lawful_process i l in
     for_memory i fault (only p h (ap (front 32) (e ∙ text_is i one) ∙ front-append 32 (text_of_pid p) (behind_process i) (lacks-pid 32 (omega arith) p h) (behind_begins i one)))
@@ -198,6 +235,7 @@ no_words rest h j k (End p reason) one e = h (text_of_term reason) e
 no_words rest h j k (Deadlock ps) one e = one
 no_words rest h j k (Runaway p) one e = k e
 no_words rest h j k (RefusedCall p n c a r t) one e = j (text_of_told_call n c a r t) e
+no_words rest h j k (Unread ps) one e = one
 
 -- one of three words follows a process
 pub nothing_behind : (p : Pid) (rest : List ℕ) → AreNumbers p → cuts.Begins 32 rest → ((w : List ℕ) → rest ≡ codes " ends " ++ w → ⊥) → ((w : List ℕ) → rest ≡ codes " request " ++ w → ⊥) → (rest ≡ codes " runs away" → ⊥) → (i : Identity) → IsLawfulIdentity i → text_of_pid p ++ rest ≡ text_of_identity i → ⊥
@@ -208,6 +246,7 @@ refused_reason text fault only (End p reason) l one e = only reason l.1 (append_
 refused_reason text fault only (Deadlock ps) l one e = absurd one
 refused_reason text fault only (Runaway p) l one e = absurd (omega (arith, differ 1 _ _ e))
 refused_reason text fault only (RefusedCall p n k a r t) l one e = absurd (omega (arith, differ 1 _ _ e))
+refused_reason text fault only (Unread ps) l one e = absurd one
 
 -- an end is refused as its reason is
 pub refused_end : (p : Pid) (text : List ℕ) (fault : IdentityFault) → AreNumbers p → ((m : Meaning) → IsLawful m → text ≡ text_of_term m → MayRefuse (height m) fault) → (i : Identity) → IsLawfulIdentity i → text_of_pid p ++ (codes " ends " ++ text) ≡ text_of_identity i → MayRefuse (height_in i) fault
@@ -224,6 +263,7 @@ refused_told : (text : List ℕ) (fault : IdentityFault) → CallsRefused text f
 refused_told text fault only (End p reason) l one e = absurd (omega (arith, differ 1 _ _ e))
 refused_told text fault only (Deadlock ps) l one e = absurd one
 refused_told text fault only (Runaway p) l one e = absurd (omega (arith, differ 2 _ _ e))
+refused_told text fault only (Unread ps) l one e = absurd one
 refused_told text fault only (RefusedCall p n k a r t) l one e =
     only p n k a r t l (told_is_cut text n k a r t l.number l.owner (append_cancel_left (codes " request ") text (text_of_told_call n k a r t) e))
 
@@ -265,3 +305,4 @@ has_large (End p reason) h = record { term = reason; among = inl refl; large = o
 has_large (Deadlock ps) h = absurd (omega (arith, h))
 has_large (Runaway p) h = absurd (omega (arith, h))
 has_large (RefusedCall p n k xs r t) h = let large = large_argument xs h in record { term = large.term; among = large.among; large = large.large }
+has_large (Unread ps) h = absurd (omega (arith, h))

@@ -5,7 +5,7 @@ use Rattle.term_core.specs.Meaning.{Meaning, Tuple, meanings_of, node_count}
 use Rattle.core_calls.specs.Calls.{signature}
 use Rattle.core_calls.specs.declared.call.CallKind.{CallKind}
 use Rattle.world_model.specs.Names.{Pid, IsAmong}
-use Rattle.world_model.specs.Shown.{Identity, End, Deadlock, Runaway, RefusedCall}
+use Rattle.world_model.specs.Shown.{Identity, End, Deadlock, Runaway, RefusedCall, Unread}
 use Rattle.world_identities.specs.Order.{terms_of}
 use Rattle.term_reader.specs.Height.{height}
 use Rattle.term_reader.specs.Lawful.{AreNumbers, IsLawful}
@@ -20,12 +20,13 @@ pub record IsLawfulCall (p : Pid) (request : ℕ) (kind : CallKind) (arguments :
   pub terms : AllByRecursion IsLawful arguments
   pub owner : IfSome told AreNumbers
 
--- what a schedule of a program can show: such a call that was refused, an end with such a reason, and a deadlock of at least one process
+-- what a schedule of a program can show: such a call that was refused, an end with such a reason, and a deadlock or unread messages of at least one process
 abbrev pub IsLawfulIdentity : Identity → Type 0
 IsLawfulIdentity (End p reason) = AreNumbers p × IsLawful reason
 IsLawfulIdentity (Deadlock processes) = (0 < length processes) × AllByRecursion AreNumbers processes
 IsLawfulIdentity (Runaway p) = AreNumbers p
 IsLawfulIdentity (RefusedCall p request kind arguments rule told) = IsLawfulCall p request kind arguments told
+IsLawfulIdentity (Unread processes) = (0 < length processes) × AllByRecursion AreNumbers processes
 
 -- how high its terms are: the reason of an end, and the arguments of a call in one tuple
 abbrev pub height_in : Identity → ℕ
@@ -33,6 +34,7 @@ height_in (End p reason) = height reason
 height_in (Deadlock processes) = 0
 height_in (Runaway p) = 0
 height_in (RefusedCall p request kind arguments rule told) = height (Tuple (meanings_of arguments))
+height_in (Unread processes) = 0
 
 -- a text is refused only for lack of memory, or where its terms are so high: higher than 10,000
 abbrev pub MayRefuse : ℕ → IdentityFault → Type 0

@@ -23,15 +23,15 @@ use term_reader::read_number;
 use world_identities::Identity;
 
 /// Reads what a schedule shows from its text, as `write_identity` writes it: `PID ends REASON`, `deadlock of PID PID
-/// ..`, `PID runs away`, or `PID request K mod:fun(args) -> badarg (N Rule)`, with `, owner PID` after the rule where
-/// an owner is reported. Terms are written as `read_term` reads them.
+/// ..`, `PID runs away`, `PID request K mod:fun(args) -> badarg (N Rule)`, with `, owner PID` after the rule where an
+/// owner is reported, or `unread messages of PID PID ..`. Terms are written as `read_term` reads them.
 ///
 /// # Errors
 ///
 /// `BadIdentity` where the text is that of nothing that a schedule can show: also where the call has not as
-/// many arguments as its kind takes, or where a deadlock is of no process. `TooDeep` where more than 10,000
-/// brackets and braces would be open at once in the reason of an end, or in the arguments of a call taken as
-/// a tuple. `Memory` where there was no memory for it. What was read is dropped.
+/// many arguments as its kind takes, or where a deadlock or unread messages are of no process. `TooDeep` where
+/// more than 10,000 brackets and braces would be open at once in the reason of an end, or in the arguments of
+/// a call taken as a tuple. `Memory` where there was no memory for it. What was read is dropped.
 pub fn read_identity(alloc: Global, text: &[u8]) -> Result<Identity, IdentityFault>
     // What is read has this text.
     ensures ok { IfOk result (λ read. IsLawfulIdentity (identity_in read) × (text.now ≡ text_of_identity (identity_in read))) }
@@ -52,6 +52,17 @@ fn read_shown(alloc: Global, text: &[u8]) -> Result<Identity, IdentityFault>
 {
     match behind_words(text, b"deadlock of") {
         Some(processes) => read_deadlock(alloc, processes),
+        None => read_others(alloc, text),
+    }
+}
+
+// Reads what is no deadlock.
+fn read_others(alloc: Global, text: &[u8]) -> Result<Identity, IdentityFault>
+    requires { (rest : List ℕ) → text.now ≡ codes "deadlock of" ++ rest → ⊥ }
+    ensures { ReadsIdentity text.now result }
+{
+    match behind_words(text, b"unread messages of") {
+        Some(processes) => read_unread(alloc, processes),
         None => read_of_one(alloc, text),
     }
 }
@@ -67,9 +78,21 @@ fn read_deadlock(alloc: Global, text: &[u8]) -> Result<Identity, IdentityFault>
     Ok(Identity::Deadlock(processes))
 }
 
+// Reads unread messages from their processes.
+fn read_unread(alloc: Global, text: &[u8]) -> Result<Identity, IdentityFault>
+    ensures { ReadsIdentity (codes "unread messages of" ++ text.now) result }
+{
+    let pids = read_processes(alloc, text)?;
+    if pids.is_empty() {
+        return Err(IdentityFault::BadIdentity);
+    }
+    Ok(Identity::Unread(pids))
+}
+
 // Reads what is shown of one process.
 fn read_of_one(alloc: Global, text: &[u8]) -> Result<Identity, IdentityFault>
-    requires { (rest : List ℕ) → text.now ≡ codes "deadlock of" ++ rest → ⊥ }
+    requires deadlock { (rest : List ℕ) → text.now ≡ codes "deadlock of" ++ rest → ⊥ }
+    requires unread { (rest : List ℕ) → text.now ≡ codes "unread messages of" ++ rest → ⊥ }
     ensures { ReadsIdentity text.now result }
 {
     let (word, rest) = split_before(text, b' ');

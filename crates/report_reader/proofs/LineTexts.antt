@@ -24,7 +24,7 @@ use Rattle.term_reader.proofs.IntegerTexts.{bits_below, bits_below_negative}
 use Rattle.term_reader.specs.Lawful as reader
 use Rattle.term_reader.specs.Lawful.{AreNumbers, IsLawful}
 use Rattle.world_model.specs.Names.{Pid}
-use Rattle.world_model.specs.Shown.{Identity, End, Deadlock, Runaway, RefusedCall}
+use Rattle.world_model.specs.Shown.{Identity, End, Deadlock, Runaway, RefusedCall, Unread}
 use Rattle.world_model.specs.declared.rule.Rule.{Rule}
 use Rattle.world_model.specs.declared.rule.Rule.TheVariants.{BadTable, NoTable, PrivateRead, PrivateWrite, ProtectedWrite, NotOwner, BadName, BadOption, NameTaken, NotObject, ShortObject, BadPosition, NoKey, NotInteger, BagRefused, DeadTarget, OwnTarget, BadItem, CounterRange}
 
@@ -298,6 +298,7 @@ no_end-identity (RefusedCall p request kind arguments rule told) h =
       no_end-append (text_of_call kind arguments) _ (no_end-call kind arguments h.terms)
           (no_end-append (codes " -> ") (text_of_broken_rule rule told) (computed (codes " -> ") refl) (no_end-reason rule told h.owner)),
     )))
+no_end-identity (Unread ps) h = no_end-append (codes "unread messages of") (flat_map pid_behind_blank ps) (computed (codes "unread messages of") refl) (no_end-processes ps h.1)
 
 -- ---- schedules
 

@@ -1,7 +1,7 @@
 -- Where nothing is excused, all errors count.
 use Rattle.std.proofs.Common.{◌≡◌, ◌∙◌, Bool, false, not, cond, List, [], ◌∷◌, ◌++◌, length, codes, refl, ap, append-nil}
 use Rattle.std.specs.Fmt.{decimal}
-use Rattle.world_model.specs.Shown.{Identity, End, Deadlock, Runaway, RefusedCall}
+use Rattle.world_model.specs.Shown.{Identity, End, Deadlock, Runaway, RefusedCall, Unread}
 use Rattle.tree_coverage.specs.Findings.{Finding}
 use Rattle.tree_excuses.specs.Excuses.{counted, is_excused, no_excuses, taken}
 use Rattle.report_text.specs.NoExcuses.{NoExcusesTellNothing}
@@ -12,6 +12,7 @@ none_is_excused (End p reason) = refl
 none_is_excused (Deadlock ps) = refl
 none_is_excused (Runaway p) = refl
 none_is_excused (RefusedCall p request kind arguments rule told) = refl
+none_is_excused (Unread ps) = refl
 
 all_count : (fs : List Finding) → counted no_excuses fs ≡ fs
 all_count [] = refl

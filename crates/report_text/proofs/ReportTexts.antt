@@ -12,6 +12,7 @@ use Rattle.tree_findings.specs.declared.outcome.Outcome.{Outcome}
 use Rattle.report_text.specs.declared.visited.Visited.{Visited}
 use Rattle.report_text.specs.IdentityText.{text_of_identity}
 use Rattle.report_text.proofs.Listing.{IsListing}
+use Rattle.report_text.specs.SampleText.{sample_last_line, sample_result}
 use Rattle.report_text.specs.ReportText.{findings_in, first_line_by, text_of_finding, findings_from, text_of_findings, text_of_all, text_of_counts, text_of_normal, text_of_taken, complete_result, last_line, text_of_report_by}
 
 -- by what the errors and the refusals are
@@ -41,6 +42,10 @@ text_of_taken-number fs n e = ap (λ w. codes ", taken as normal " ++ decimal w)
 pub text_of_report-findings : (visited : Visited) (depth : ℕ) (x : Excuses) (o : Outcome) (f : coverage.Findings) → f ≡ findings_in o
     → text_of_report_by visited depth x o ≡ first_line_by visited depth o ++ (text_of_all x f ++ (text_of_counts x f ++ last_line x o))
 text_of_report-findings visited depth x o f e = sym (ap (λ w. first_line_by visited depth o ++ (text_of_all x w ++ (text_of_counts x w ++ last_line x o))) e)
+
+-- the last line of one of random schedules, by what the errors are
+pub sample_last_line-errors : (x : Excuses) (f : coverage.Findings) (es : List coverage.Finding) → es ≡ f.errors → sample_last_line x f ≡ codes "result: " ++ (sample_result (counted x es) ++ codes "\n")
+sample_last_line-errors x f es are = sym (ap (λ w. codes "result: " ++ (sample_result (counted x w) ++ codes "\n")) are)
 
 -- by what the schedule is
 pub text_of_finding-schedule : (kind : List ℕ) (number : ℕ) (f : coverage.Finding) (s : List Step) → s ≡ f.schedule → text_of_finding kind number f ≡ kind ++ (codes " " ++ (decimal number ++ (codes ": " ++ (text_of_identity f.identity ++ (codes "\n  " ++ (text_of_schedule s ++ codes "\n"))))))

@@ -6,7 +6,7 @@ use Rattle.term_core.specs.Meaning.{Meaning}
 use Rattle.term_core.specs.Text.{text_of_pid}
 use Rattle.core_calls.specs.declared.call.CallKind.{CallKind}
 use Rattle.world_model.specs.Names.{Pid}
-use Rattle.world_model.specs.Shown.{Identity, End, Deadlock, Runaway, RefusedCall}
+use Rattle.world_model.specs.Shown.{Identity, End, Deadlock, Runaway, RefusedCall, Unread}
 use Rattle.world_model.specs.declared.rule.Rule.{Rule}
 use Rattle.world_event_text.specs.CallText.{text_of_call, text_of_broken_rule}
 use Rattle.world_event_text.specs.EventText.{text_of_end}
@@ -23,6 +23,10 @@ pid_behind_blank p = codes " " ++ text_of_pid p
 abbrev pub text_of_deadlock : List Pid → List ℕ
 text_of_deadlock processes = codes "deadlock of" ++ flat_map pid_behind_blank processes
 
+-- the processes that have messages which they do not take
+abbrev pub text_of_unread : List Pid → List ℕ
+text_of_unread processes = codes "unread messages of" ++ flat_map pid_behind_blank processes
+
 -- a process that ran away
 abbrev pub text_of_runaway : Pid → List ℕ
 text_of_runaway p = text_of_pid p ++ codes " runs away"
@@ -38,3 +42,4 @@ text_of_identity (End p reason) = text_of_ended p reason
 text_of_identity (Deadlock processes) = text_of_deadlock processes
 text_of_identity (Runaway p) = text_of_runaway p
 text_of_identity (RefusedCall p request kind arguments rule told) = text_of_refused_call p request kind arguments rule told
+text_of_identity (Unread processes) = text_of_unread processes

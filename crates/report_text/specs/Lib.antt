@@ -1,7 +1,9 @@
 pub mod IdentityText
 pub mod Standing
 pub mod ReportText
+pub mod SampleText
 pub mod FirstLines
 pub mod LastLines
+pub mod SampleLines
 pub mod Clean
 pub mod NoExcuses

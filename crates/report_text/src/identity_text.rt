@@ -3,7 +3,7 @@ ghost use Rattle.std.specs.Prelude.{◌≡◌, false};
 ghost use Rattle.term_core.specs.Stream.{Writes};
 ghost use Rattle.term_core.specs.Term.{meaning_of};
 ghost use Rattle.world_identities.specs.Identities.{identity_in};
-ghost use Rattle.report_text.specs.IdentityText.{text_of_ended, pid_behind_blank, text_of_deadlock, text_of_runaway, text_of_refused_call, text_of_identity};
+ghost use Rattle.report_text.specs.IdentityText.{text_of_ended, pid_behind_blank, text_of_deadlock, text_of_unread, text_of_runaway, text_of_refused_call, text_of_identity};
 
 use core_tree::CallKind;
 use term_core::{Pid, Sink, Term, Terms, WriteFault, write_all, write_number, write_pid};
@@ -12,9 +12,9 @@ use world_identities::Identity;
 use world_model::rule::Rule;
 
 /// Writes what a schedule shows, without the end of a line: `PID ends REASON`, `deadlock of PID PID ..`,
-/// `PID runs away`, or `PID request K ets:fun(args) -> badarg (..)` with the brackets of the transcript.
-/// `WriteFault` comes only where the sink has failed, and then a beginning of the text was written. It takes
-/// no memory.
+/// `PID runs away`, `PID request K ets:fun(args) -> badarg (..)` with the brackets of the transcript, or
+/// `unread messages of PID PID ..`. `WriteFault` comes only where the sink has failed, and then a beginning
+/// of the text was written. It takes no memory.
 pub fn write_identity<W: Sink>(sink: &mut W, identity: &Identity) -> Result<(), WriteFault>
     requires { W.has_failed sink.old ≡ false }
     ensures { Writes (W.contents sink.old) (W.contents sink.new) (W.has_failed sink.new) result (text_of_identity (identity_in identity.now)) }
@@ -31,6 +31,7 @@ pub fn write_identity<W: Sink>(sink: &mut W, identity: &Identity) -> Result<(), 
             rule,
             owner,
         } => write_refused_call(sink, pid, *request, *kind, arguments, *rule, owner),
+        Identity::Unread(processes) => write_unread(sink, processes),
     }
 }
 
@@ -50,6 +51,18 @@ fn write_deadlock<W: Sink>(sink: &mut W, processes: &[Pid]) -> Result<(), WriteF
     ensures { Writes (W.contents sink.old) (W.contents sink.new) (W.has_failed sink.new) result (text_of_deadlock processes.now) }
 {
     write_all(sink, b"deadlock of")?;
+    for pid in processes {
+        write_behind_blank(sink, pid)?;
+    }
+    Ok(())
+}
+
+// Writes the processes that have messages which they do not take.
+fn write_unread<W: Sink>(sink: &mut W, processes: &[Pid]) -> Result<(), WriteFault>
+    requires { W.has_failed sink.old ≡ false }
+    ensures { Writes (W.contents sink.old) (W.contents sink.new) (W.has_failed sink.new) result (text_of_unread processes.now) }
+{
+    write_all(sink, b"unread messages of")?;
     for pid in processes {
         write_behind_blank(sink, pid)?;
     }

@@ -3,6 +3,7 @@ ghost use Rattle.report_text.specs.Clean.{LastLinesSayIt};
 ghost use Rattle.report_text.specs.FirstLines.{CutStatesAreCounted, NodesAreCounted, PromptStatesAreCounted, PromptStopIsTold, PromptStopIsToldAlike, StateLimitIsTold, StatesAreCounted, StatesTakeMemory, StopIsToldAlike};
 ghost use Rattle.report_text.specs.LastLines.{CutIsToDepth, ErrorsAreOfAll, ErrorsAreOfPrompt, StatesAreOfAll, StatesAreOfPrompt, TreeIsOfAll};
 ghost use Rattle.report_text.specs.NoExcuses.{NoExcusesTellNothing};
+ghost use Rattle.report_text.specs.SampleLines.{ErrorsAreTold, ExcusedIsListed, ExcusedIsNothing, NothingIsTold, SamplesAreCounted, UnreadIsListed};
 
 /// Whatever is excused, the last line of an explained report is `result: clean, all schedules` exactly where signals were
 /// delivered at any time, all nodes or states were visited, none shows an error that counts, and the depth cuts off
@@ -38,4 +39,14 @@ pub fn last_lines_are_so()
     ensures prompt { StatesAreOfPrompt }
     ensures prompt_errors { ErrorsAreOfPrompt }
     ensures cut { CutIsToDepth }
+{}
+
+/// The first and the last line of reports of random schedules, and a whole report, are what was worked out by hand.
+pub fn sample_lines_are_so()
+    ensures first { SamplesAreCounted }
+    ensures nothing { NothingIsTold }
+    ensures errors { ErrorsAreTold }
+    ensures excused { ExcusedIsNothing }
+    ensures report { ExcusedIsListed }
+    ensures unread { UnreadIsListed }
 {}

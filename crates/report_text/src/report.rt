@@ -139,8 +139,8 @@ fn write_cause<W: Sink>(sink: &mut W, cause: Cause) -> Result<(), WriteFault>
     }
 }
 
-// Writes the errors that count, then the refusals, and then the errors that are taken as normal.
-fn write_all_findings<W: Sink>(
+/// Writes the errors that count, then the refusals, and then the errors that are taken as normal.
+pub(crate) fn write_all_findings<W: Sink>(
     sink: &mut W,
     excuses: &Excuses,
     findings: &Findings,
@@ -295,8 +295,9 @@ fn write_result<W: Sink>(
     }
 }
 
-/// Writes the result where all nodes were visited: whether there are errors that count.
-pub(crate) fn write_complete_result<W: Sink>(
+/// Writes the result where all nodes were visited: `errors` where there are errors that count, else `clean`. `WriteFault`
+/// comes only where the sink has failed, and then a beginning of the word was written. It takes no memory.
+pub fn write_complete_result<W: Sink>(
     sink: &mut W,
     excuses: &Excuses,
     errors: &FindingList,

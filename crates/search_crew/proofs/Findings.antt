@@ -31,7 +31,7 @@ terms_sync = search (crosses, terms.crosses, sendable) depth 60 fits 20000
 -- ---- findings
 
 identity_send : IsSend Identity.the_row
-identity_send = variants_send Identity.enum ((pid.the_send, (term_send, tt)), ((search (pid.the_send, crosses, maps.crosses, sendable) depth 20, tt), ((pid.the_send, tt), ((pid.the_send, (search sendable, (call.the_send, (search (terms_send, terms_sync, crosses, maps.crosses, sendable) depth 20, (search (rule.the_send, sendable) depth 20, (search (pid.the_send, sendable) depth 20, tt)))))), tt))))
+identity_send = variants_send Identity.enum ((pid.the_send, (term_send, tt)), ((search (pid.the_send, crosses, maps.crosses, sendable) depth 20, tt), ((pid.the_send, tt), ((pid.the_send, (search sendable, (call.the_send, (search (terms_send, terms_sync, crosses, maps.crosses, sendable) depth 20, (search (rule.the_send, sendable) depth 20, (search (pid.the_send, sendable) depth 20, tt)))))), ((search (pid.the_send, crosses, maps.crosses, sendable) depth 20, tt), tt)))))
 
 finding_send : IsSend Finding.the_row
 finding_send = declared_send Finding.the_type (identity_send, (search (step.the_send, crosses, maps.crosses, sendable) depth 20, tt))

@@ -1,4 +1,4 @@
--- Records after a planned step, and the deadlock of those where no step is enabled.
+-- Records after a planned step, and what is shown of those where no step is enabled.
 use Rattle.std.proofs.lemmas.Bool.{eq-eqb, eqb-true, false≢true}
 use Rattle.std.proofs.Common.{◌≡◌, ◌∙◌, ◌==◌, ◌++◌, ℕ, Bool, List, [], ◌∷◌, Option, Some, None, Bor, is_some, map, option_map, true, false, not, refl, sym, ap, subst, append-nil, length}
 use Rattle.core_tree.specs.Syntax.{ModuleTree}
@@ -9,10 +9,9 @@ use Rattle.world_identities.specs.Identities.{identity_in}
 use Rattle.world_identities.specs.declared.identity.Identity.{Identity}
 use Rattle.world_model.specs.Asking.{program_of}
 use Rattle.world_model.specs.Events.{Event, event, History}
-use Rattle.world_model.specs.Names.{Pid}
 use Rattle.world_model.specs.Requests.{Program}
-use Rattle.world_model.specs.Run.{enabled_steps, living, next_event}
-use Rattle.world_model.specs.Shown.{deadlock_of}
+use Rattle.world_model.specs.Run.{enabled_steps, next_event}
+use Rattle.world_model.specs.Shown.{shown_at_rest}
 use Rattle.world_model.specs.Signals.{first_of}
 use Rattle.world_model.specs.World.{contents}
 use Rattle.world_model.specs.Cells.{Contents}
@@ -55,17 +54,17 @@ some_enabled None steps is on none = absurd cc
 some_enabled (Some t) [] is on none = absurd cc
 some_enabled (Some t) (s ∷ steps) is on none = absurd cc
 
-no_deadlock : (steps : List Step) (ps : List Pid) → (steps ≡ [] → ⊥) → deadlock_of steps ps ≡ []
-no_deadlock [] ps some = absurd (some refl)
-no_deadlock (s ∷ steps) ps some = refl
+no_deadlock : (steps : List Step) (h : History) → (steps ≡ [] → ⊥) → shown_at_rest steps h ≡ []
+no_deadlock [] h some = absurd (some refl)
+no_deadlock (s ∷ steps) h some = refl
 
 -- nothing is added where one is
 pub lives_on : (a : Program) (h : History) (shown : List Identity) → (enabled_steps a h ≡ [] → ⊥) → AddsDeadlock a h shown shown
-lives_on a h shown some = sym (append-nil (map identity_in shown)) ∙ ap (λ more. map identity_in shown ++ more) (sym (no_deadlock (enabled_steps a h) (living h) some))
+lives_on a h shown some = sym (append-nil (map identity_in shown)) ∙ ap (λ more. map identity_in shown ++ more) (sym (no_deadlock (enabled_steps a h) h some))
 
--- and all that live where none is
-pub dies_out : (a : Program) (h : History) (old new : List Identity) → enabled_steps a h ≡ [] → map identity_in new ≡ map identity_in old ++ deadlock_of [] (living h) → AddsDeadlock a h old new
-dies_out a h old new none adds = adds ∙ ap (λ steps. map identity_in old ++ deadlock_of steps (living h)) (sym none)
+-- and where none is, what is shown of those that live
+pub dies_out : (a : Program) (h : History) (old new : List Identity) → enabled_steps a h ≡ [] → map identity_in new ≡ map identity_in old ++ shown_at_rest [] h → AddsDeadlock a h old new
+dies_out a h old new none adds = adds ∙ ap (λ steps. map identity_in old ++ shown_at_rest steps h) (sym none)
 
 -- so it goes on, or not
 pub goes : (a : Program) (h : History) → (enabled_steps a h ≡ [] → ⊥) → goes_on a (Some h) ≡ true

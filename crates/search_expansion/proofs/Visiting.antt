@@ -9,9 +9,9 @@ use Rattle.tree_findings.specs.Laws.{AddsSchedule}
 use Rattle.world_identities.specs.declared.identity.Identity.{Identity}
 use Rattle.world_model.specs.Asking.{program_of}
 use Rattle.world_model.specs.Events.{Event, History}
-use Rattle.world_model.specs.Run.{enabled_steps, extended, living, next_event, run, schedule_of}
+use Rattle.world_model.specs.Run.{enabled_steps, extended, next_event, run, schedule_of}
 use Rattle.world_model.specs.Shown as shown
-use Rattle.world_model.specs.Shown.{Flags, deadlock_of, shown_last}
+use Rattle.world_model.specs.Shown.{Flags, shown_at_rest, shown_last}
 use Rattle.tree_coverage.specs.Findings.{Findings}
 use Rattle.tree_coverage.specs.Jobs as tree
 use Rattle.tree_coverage.specs.Jobs.{asleep_below}
@@ -114,12 +114,12 @@ module _ (m : ModuleTree) (path : List Step) (below : List Frame) (top : Frame) 
     own_runs : run child.program (schedule_of child.history) ≡ Some child.history
     own_runs = (λ i. run (program i) (schedule_of (history i))) ∙ goes_there m path below top on e next ∙ ap Some (sym history)
 
-    pub visited : (cut : Bool) (flags : Flags) (f g : Findings) → cut ≡ is_cut_at child → map identity_in before ≡ shown_last (e ∷ history_at m path top.taken) → map identity_in after ≡ map identity_in before ++ deadlock_of (enabled_steps (program_of m) (e ∷ history_at m path top.taken)) (living (e ∷ history_at m path top.taken)) → AddsSchedule flags there (map identity_in after) f g
+    pub visited : (cut : Bool) (flags : Flags) (f g : Findings) → cut ≡ is_cut_at child → map identity_in before ≡ shown_last (e ∷ history_at m path top.taken) → map identity_in after ≡ map identity_in before ++ shown_at_rest (enabled_steps (program_of m) (e ∷ history_at m path top.taken)) (e ∷ history_at m path top.taken) → AddsSchedule flags there (map identity_in after) f g
         → VisitsNext flags (all_seen_on m path (below ++ top ∷ [])) f (all_seen_on m there new) g cut
     visited cut flags f g cut_is last dead adds =
         let h = e ∷ history_at m path top.taken in
         let all : map identity_in after ≡ shown.shown child.program child.history =
-        dead ∙ ap (λ is. is ++ deadlock_of (enabled_steps (program_of m) h) (living h)) last ∙ (λ i. shown.shown (sym program i) (sym history i)) in
+        dead ∙ ap (λ is. is ++ shown_at_rest (enabled_steps (program_of m) h) h) last ∙ (λ i. shown.shown (sym program i) (sym history i)) in
         let own : AddsSchedule flags (schedule_of child.history) (shown.shown child.program child.history) f g =
         subst (λ (s : List Step). AddsSchedule flags s (shown.shown child.program child.history) f g) (sym (schedule_is m path below top on e next) ∙ ap schedule_of (sym history))
         (subst (λ is. AddsSchedule flags there is f g) all adds) in

@@ -214,8 +214,8 @@ impl<'m> Frame<'m> {
     }
 
     /// Puts the deadlock of the next child after other identities, where no step is enabled there and some process
-    /// lives, and says whether one is enabled. No records are made where it is plain that one is. `AllocError` if there
-    /// is no memory for it.
+    /// lives, and then what is unread there, and says whether a step is enabled. No records are made where it is plain
+    /// that one is. `AllocError` if there is no memory for it.
     pub(crate) fn add_deadlock(
         &self,
         alloc: Global,

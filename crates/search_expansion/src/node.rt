@@ -72,8 +72,8 @@ impl<'m> Node<'m> {
         })
     }
 
-    /// Puts the deadlock of the node after other identities, where no step is enabled there and some process lives.
-    /// `AllocError` if there is no memory for it.
+    /// Puts the deadlock of the node after other identities, where no step is enabled there and some process lives, and
+    /// then what is unread there. `AllocError` if there is no memory for it.
     pub(crate) fn add_deadlock(
         &self,
         alloc: Global,

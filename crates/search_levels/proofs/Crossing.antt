@@ -29,7 +29,7 @@ terms_sync : IsSync Terms.the_row
 terms_sync = search (crosses, terms.crosses, sendable) depth 60 fits 20000
 
 identity_send : IsSend Identity.the_row
-identity_send = variants_send Identity.enum ((pid.the_send, (term_send, tt)), ((search (pid.the_send, crosses, maps.crosses, sendable) depth 20, tt), ((pid.the_send, tt), ((pid.the_send, (search sendable, (call.the_send, (search (terms_send, terms_sync, crosses, maps.crosses, sendable) depth 20, (search (rule.the_send, sendable) depth 20, (search (pid.the_send, sendable) depth 20, tt)))))), tt))))
+identity_send = variants_send Identity.enum ((pid.the_send, (term_send, tt)), ((search (pid.the_send, crosses, maps.crosses, sendable) depth 20, tt), ((pid.the_send, tt), ((pid.the_send, (search sendable, (call.the_send, (search (terms_send, terms_sync, crosses, maps.crosses, sendable) depth 20, (search (rule.the_send, sendable) depth 20, (search (pid.the_send, sendable) depth 20, tt)))))), ((search (pid.the_send, crosses, maps.crosses, sendable) depth 20, tt), tt)))))
 
 -- ---- arrivals
 

@@ -25,7 +25,9 @@ fn same_flags(a: Flags, b: Flags) -> bool
     ensures yes { result ≡ true → flags_in a ≡ flags_in b }
     ensures no { result ≡ false → flags_in a ≡ flags_in b → ⊥ }
 {
-    a.allow_deadlock == b.allow_deadlock && a.strict_access == b.strict_access
+    a.allow_deadlock == b.allow_deadlock
+        && a.strict_access == b.strict_access
+        && a.idle_servers == b.idle_servers
 }
 
 // Whether two explorations are one. Modules are compared by value.

@@ -336,7 +336,7 @@ store_sync : (a : NamedLft) → IsSync (Store.the_row a)
 store_sync a = declared_sync (Store.the_type a) ((search (records_sync, crosses, maps.crosses, sendable) depth 20), ((search (place.the_sync, crosses, maps.crosses, sendable) depth 20), ((search (part_sync, crosses, maps.crosses, sendable) depth 20), (index.the_sync, ((search (step.the_sync, crosses, maps.crosses, sendable) depth 20), tt)))))
 
 identity_sync : IsSync Identity.the_row
-identity_sync = variants_sync Identity.enum ((pid.the_sync, (term_sync, tt)), (((search (pid.the_sync, crosses, maps.crosses, sendable) depth 20), tt), ((pid.the_sync, tt), ((pid.the_sync, ((search sendable), (call.the_sync, ((search (terms_send, terms_sync, crosses, maps.crosses, sendable) depth 20), ((search (rule.the_sync, crosses, maps.crosses, sendable) depth 20), ((search (pid.the_sync, crosses, maps.crosses, sendable) depth 20), tt)))))), tt))))
+identity_sync = variants_sync Identity.enum ((pid.the_sync, (term_sync, tt)), (((search (pid.the_sync, crosses, maps.crosses, sendable) depth 20), tt), ((pid.the_sync, tt), ((pid.the_sync, ((search sendable), (call.the_sync, ((search (terms_send, terms_sync, crosses, maps.crosses, sendable) depth 20), ((search (rule.the_sync, crosses, maps.crosses, sendable) depth 20), ((search (pid.the_sync, crosses, maps.crosses, sendable) depth 20), tt)))))), (((search (pid.the_sync, crosses, maps.crosses, sendable) depth 20), tt), tt)))))
 
 remembered_sync : IsSync Remembered.the_row
 remembered_sync = declared_sync Remembered.the_type (step.the_sync, ((search sendable), ((search (touch.the_sync, crosses, maps.crosses, sendable) depth 20), ((search (identity_sync, crosses, maps.crosses, sendable) depth 30), tt))))

@@ -1,4 +1,4 @@
--- The deadlock of a world, and what is after a step with it.
+-- What is shown of a world where no step is enabled, and what is after a step with it.
 use Rattle.std.proofs.Common.{◌≡◌, ◌∙◌, ◌++◌, ℕ, true, false, List, [], ◌∷◌, Some, None, Result, Ok, Err, OnOk, map, sym, ap, subst}
 use Rattle.std.specs.List.{filter}
 use Rattle.search_levels.specs.Arrivals.{AreArrivals, Arrived, of_module}
@@ -20,22 +20,22 @@ use Rattle.world_identities.specs.declared.identity.Identity.{Identity}
 use Rattle.world_model.specs.Asking.{program_of}
 use Rattle.world_model.specs.Cells.{Contents}
 use Rattle.world_model.specs.Events.{History}
-use Rattle.world_model.specs.Run.{enabled_steps, living}
-use Rattle.world_model.specs.Shown.{deadlock_of}
+use Rattle.world_model.specs.Run.{enabled_steps}
+use Rattle.world_model.specs.Shown.{shown_at_rest}
 use Rattle.world_model.specs.World.{contents}
 use Rattle.world_records.specs.Records.{Agrees}
 use Rattle.world_records.specs.declared.records.Records.{Records}
 
 -- where a step is enabled there is none
 pub none_added : (known : Known) (numbers : ℕ → ℕ) (shown : List Identity) → GoesOn known numbers true → AddsDeadlockIn known numbers shown shown
-none_added known numbers shown goes later m h follows are = goes_on (map identity_in shown) (enabled_steps (program_of m) h) (living h) (goes later m h follows are)
+none_added known numbers shown goes later m h follows are = goes_on (map identity_in shown) (enabled_steps (program_of m) h) h (goes later m h follows are)
 
 -- where none is, it is that of the records of the world
 pub one_added : (known : Known) (numbers : ℕ → ℕ) (records : Records) (old new : List Identity) → IsWorldOf known.store numbers → GoesOn known numbers false
     → ((m : ModuleTree) (v : Contents) → HasAll m (part_at known.store numbers) v → Agrees m records v)
-    → ((m : ModuleTree) (h : History) → Agrees m records (contents h) → map identity_in new ≡ map identity_in old ++ deadlock_of [] (living h)) → AddsDeadlockIn known numbers old new
+    → ((m : ModuleTree) (h : History) → Agrees m records (contents h) → map identity_in new ≡ map identity_in old ++ shown_at_rest [] h) → AddsDeadlockIn known numbers old new
 one_added known numbers records old new world goes agrees adds later m h follows are =
-    stands_still (map identity_in old) (map identity_in new) (enabled_steps (program_of m) h) (living h) (goes later m h follows are)
+    stands_still (map identity_in old) (map identity_in new) (enabled_steps (program_of m) h) h (goes later m h follows are)
     (adds m h (agrees m (contents h) (has_earlier known.store later numbers follows world.kept m (contents h) are.has)))
 
 -- what is after a remembered step, with the deadlock there

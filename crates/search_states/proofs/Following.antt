@@ -1,4 +1,4 @@
--- The enabled steps of a world, which are taken one after the other, and the deadlock after each.
+-- The enabled steps of a world, which are taken one after the other, and what is shown after each where none is enabled.
 use Rattle.std.proofs.Common.{◌≡◌, ◌∙◌, ℕ, true, false, List, [], ◌∷◌, ◌++◌, Some, None, map, refl, sym, ap, subst, append_assoc, append-nil}
 use Rattle.std.proofs.lemmas.List.{map-append}
 use Rattle.std.specs.List.{AllByRecursion}
@@ -16,22 +16,21 @@ use Rattle.tree_schedules.specs.Deliveries.{first_or_all}
 use Rattle.tree_schedules.specs.declared.delivery.Delivery.TheVariants.{AnyTime}
 use Rattle.world_model.specs.Asking.{program_of}
 use Rattle.world_model.specs.Events.{History}
-use Rattle.world_model.specs.Names.{Pid}
-use Rattle.world_model.specs.Run.{enabled_steps, living, next_event}
+use Rattle.world_model.specs.Run.{enabled_steps, next_event}
 use Rattle.world_model.specs.Shown as told
-use Rattle.world_model.specs.Shown.{deadlock_of}
+use Rattle.world_model.specs.Shown.{shown_at_rest}
 
 -- ---- deadlocks
 
 -- where a step is enabled there is none
-pub goes_on : (old : List told.Identity) (steps : List Step) (ps : List Pid) → true ≡ is_some_step steps → old ≡ old ++ deadlock_of steps ps
-goes_on old [] ps is = absurd cc
-goes_on old (step ∷ steps) ps is = sym (append-nil old)
+pub goes_on : (old : List told.Identity) (steps : List Step) (h : History) → true ≡ is_some_step steps → old ≡ old ++ shown_at_rest steps h
+goes_on old [] h is = absurd cc
+goes_on old (step ∷ steps) h is = sym (append-nil old)
 
--- where none is, it is that of the processes that live
-pub stands_still : (old new : List told.Identity) (steps : List Step) (ps : List Pid) → false ≡ is_some_step steps → new ≡ old ++ deadlock_of [] ps → new ≡ old ++ deadlock_of steps ps
-stands_still old new [] ps is added = added
-stands_still old new (step ∷ steps) ps is added = absurd cc
+-- where none is, it is that of the processes that live, and what they leave unread comes after it
+pub stands_still : (old new : List told.Identity) (steps : List Step) (h : History) → false ≡ is_some_step steps → new ≡ old ++ shown_at_rest [] h → new ≡ old ++ shown_at_rest steps h
+stands_still old new [] h is added = added
+stands_still old new (step ∷ steps) h is added = absurd cc
 
 -- ---- what is after a step
 
@@ -42,7 +41,7 @@ arrives later m h step row taken to same is adds e = record {
   event = e.event;
   is_next = ap (next_event (program_of m) h) (same ∙ is) ∙ e.is_next;
   agrees = (refl, e.are);
-  shown = adds e ∙ ap (λ (xs : List told.Identity). xs ++ deadlock_of (enabled_steps (program_of m) (e.event ∷ h)) (living (e.event ∷ h))) e.shown;
+  shown = adds e ∙ ap (λ (xs : List told.Identity). xs ++ shown_at_rest (enabled_steps (program_of m) (e.event ∷ h)) (e.event ∷ h)) e.shown;
 }
 
 -- ---- those that were taken, and those that are left

@@ -12,8 +12,8 @@ use tree_schedules::Delivery;
 use world_core::push_deadlock;
 use world_identities::Identity;
 
-/// Puts the deadlock of a world after what else is shown there, where no step is enabled in it and some process lives.
-/// `Unknown` where that is not told.
+/// Puts the deadlock of a world after what else is shown there, where no step is enabled in it and some process lives, and
+/// then what is unread there. `Unknown` where that is not told.
 pub(crate) fn add_deadlock<'m, L: Look<'m>>(
     alloc: Global,
     look: &mut L,
@@ -32,8 +32,8 @@ pub(crate) fn add_deadlock<'m, L: Look<'m>>(
     Ok(())
 }
 
-// Puts the deadlock of the world after a step after what else is shown there, where these steps were enabled before. Most often
-// one of them still is, which tells that there is none. `Unknown` where that is not told.
+// Puts the deadlock of the world after a step after what else is shown there, and then what is unread, where these steps were
+// enabled before. Most often one of them still is, which tells that there is none. `Unknown` where that is not told.
 fn add_deadlock_after<'m, L: Look<'m>>(
     alloc: Global,
     look: &mut L,

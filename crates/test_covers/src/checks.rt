@@ -404,6 +404,7 @@ fn answers_byte_for_byte(rt: HostRuntime) -> Result<(), Fail> {
         let flags = Flags {
             allow_deadlock,
             strict_access,
+            idle_servers: false,
         };
         for (read, write) in [(10_000, 10_000), (1, 10_000), (10_000, 1)] {
             let (written, told, ended) = answer_of(alloc, &bytes, depth, flags, read, write)?;

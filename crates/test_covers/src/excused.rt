@@ -20,6 +20,14 @@ const CHILD_EXITS: &str =
 const CHILD_WAITS: &str =
     "module 'm' ['main'/0,'c'/0] attributes [] 'main'/0 = fun () -> do call 'erlang':'spawn'('m','c',[]) 'x' 'c'/0 = fun () -> receive <X> when 'true' -> X after 'infinity' -> 'x' end\n";
 
+// The same, where that one never takes the message that it gets.
+const CHILD_KEEPS: &str =
+    "module 'm' ['main'/0,'c'/0] attributes [] 'main'/0 = fun () -> let <C> = call 'erlang':'spawn'('m','c',[]) in do call 'erlang':'!'(C,'late') 'x' 'c'/0 = fun () -> receive <'go'> when 'true' -> 'x' after 'infinity' -> 'x' end\n";
+
+// And where both wait.
+const BOTH_KEEP: &str =
+    "module 'm' ['main'/0,'c'/0] attributes [] 'main'/0 = fun () -> let <C> = call 'erlang':'spawn'('m','c',[]) in do call 'erlang':'!'(C,'late') receive <'go'> when 'true' -> 'x' after 'infinity' -> 'x' 'c'/0 = fun () -> receive <'go'> when 'true' -> 'x' after 'infinity' -> 'x' end\n";
+
 // A process spawns another, and both wait for ever.
 const BOTH_WAIT: &str =
     "module 'm' ['main'/0,'c'/0] attributes [] 'main'/0 = fun () -> do call 'erlang':'spawn'('m','c',[]) receive <X> when 'true' -> X after 'infinity' -> 'x' 'c'/0 = fun () -> receive <X> when 'true' -> X after 'infinity' -> 'x' end\n";
@@ -31,11 +39,26 @@ const EXIT_AND_WAIT: &str =
 const PLAIN: Flags = Flags {
     allow_deadlock: false,
     strict_access: false,
+    idle_servers: false,
 };
 
 const STRICT: Flags = Flags {
     allow_deadlock: false,
     strict_access: true,
+    idle_servers: false,
+};
+
+const IDLE: Flags = Flags {
+    allow_deadlock: false,
+    strict_access: false,
+    idle_servers: true,
+};
+
+// No deadlock is an error, and what is unread is one where the first process has ended.
+const UNREAD_ALONE: Flags = Flags {
+    allow_deadlock: true,
+    strict_access: false,
+    idle_servers: true,
 };
 
 // A module, the lines of a cover, the depth, the flags, whether only deadlocks of the first process count, the reasons that
@@ -48,7 +71,7 @@ const ROWS: [(
     bool,
     &[&str],
     Result<(), CoverFault>,
-); 25] = [
+); 33] = [
     // an end with a reason
     (
         EXIT,
@@ -146,6 +169,72 @@ const ROWS: [(
         Err(CoverFault::ErrorFound(3)),
     ),
     (CHILD_WAITS, "P\nP\n\n", 3, PLAIN, true, &[], Ok(())),
+    // what is unread then, where servers have to be idle, whatever is excused
+    (CHILD_WAITS, "P\nP\n\n", 3, IDLE, true, &[], Ok(())),
+    (
+        CHILD_KEEPS,
+        "P\nP\nP P>P.1\nP>P.1\n\n\n",
+        4,
+        PLAIN,
+        true,
+        &[],
+        Ok(()),
+    ),
+    (
+        CHILD_KEEPS,
+        "P\nP\nP P>P.1\nP>P.1\n\n\n",
+        4,
+        IDLE,
+        true,
+        &[],
+        Err(CoverFault::ErrorFound(5)),
+    ),
+    (
+        CHILD_KEEPS,
+        "P\nP\nP P>P.1\nP>P.1\n\n\n",
+        4,
+        UNREAD_ALONE,
+        true,
+        &["late", "normal"],
+        Err(CoverFault::ErrorFound(5)),
+    ),
+    (
+        CHILD_KEEPS,
+        "P\nP\nP P>P.1\n\n\n",
+        3,
+        IDLE,
+        true,
+        &[],
+        Ok(()),
+    ),
+    // it is none where the first process waits, and the deadlock is one then
+    (
+        BOTH_KEEP,
+        "P\nP\nP>P.1\n\n",
+        3,
+        UNREAD_ALONE,
+        false,
+        &[],
+        Ok(()),
+    ),
+    (
+        BOTH_KEEP,
+        "P\nP\nP>P.1\n\n",
+        3,
+        IDLE,
+        true,
+        &[],
+        Err(CoverFault::ErrorFound(4)),
+    ),
+    (
+        WAITING,
+        "\n",
+        1,
+        IDLE,
+        true,
+        &[],
+        Err(CoverFault::ErrorFound(1)),
+    ),
     // one in which it does, alone and with another
     (
         WAITING,

@@ -17,6 +17,7 @@ const ANSWER: &str = "cover good to depth 3\n";
 const PLAIN: Flags = Flags {
     allow_deadlock: false,
     strict_access: false,
+    idle_servers: false,
 };
 
 // At each of the first reads, and at the one that would find the end.

@@ -27,11 +27,13 @@ const TWO_KEYS: &str =
 const PLAIN: Printed = Printed {
     explained: false,
     cover: false,
+    terms: false,
 };
 
 const COVERED: Printed = Printed {
     explained: false,
     cover: true,
+    terms: false,
 };
 
 // What is explored by so many workers, with at most so many nodes.
@@ -47,6 +49,7 @@ fn options(depth: u64, nodes: u64, workers: u64) -> Options
         flags: Flags {
             allow_deadlock: false,
             strict_access: false,
+            idle_servers: false,
         },
     }
 }

@@ -1,4 +1,4 @@
-// Ends, deadlocks and runaways read back, and texts that say nothing.
+// Ends, deadlocks, runaways and unread messages read back, and texts that say nothing.
 use crate::made::{fault_of, pid, reads_back, says};
 use report_identities::IdentityFault;
 use std::str;
@@ -8,7 +8,7 @@ use test_support::nested;
 use world_identities::Identity;
 
 // Texts that are read, as reports print them.
-const READ: [&[u8]; 21] = [
+const READ: [&[u8]; 24] = [
     b"P ends 'boom'",
     b"P ends {'badarg',[]}",
     b"P.2.1 ends 'with blanks ) -> badarg (2 NoTable)'",
@@ -22,6 +22,9 @@ const READ: [&[u8]; 21] = [
     b"deadlock of P.0 P P",
     b"P runs away",
     b"P.1.2 runs away",
+    b"unread messages of P",
+    b"unread messages of P.1 P.2.1 P.3",
+    b"unread messages of P.18446744073709551615 P.0 P.0",
     b"P request 1 ets:insert('t',{1,'a'}) -> badarg (2 NoTable)",
     b"P.2 request 0 ets:new('t',[]) -> badarg (9 NameTaken)",
     b"P request 18446744073709551615 ets:first(#P.1) -> badarg (3 PrivateRead, owner P.1)",
@@ -41,7 +44,7 @@ fn reads_identities(rt: HostRuntime) -> Result<(), Fail> {
 }
 
 // Texts that say nothing.
-const REFUSED: [&[u8]; 58] = [
+const REFUSED: [&[u8]; 71] = [
     b"",
     b" ",
     b"P",
@@ -82,6 +85,20 @@ const REFUSED: [&[u8]; 58] = [
     b"P  runs away",
     b"P runs  away",
     b"runs away",
+    // unread messages
+    b"unread",
+    b"unread messages",
+    b"unread messages of",
+    b"unread messages of ",
+    b"unread messages of  P",
+    b"unread messages of P ",
+    b"unread messages of P  P.1",
+    b"unread messages of P,P.1",
+    b"unread messages of P\nP.1",
+    b"unread messages of 1",
+    b"unread messages ofP",
+    b"unread message of P",
+    b"Unread messages of P",
     // calls
     b"P request",
     b"P request 1",
@@ -141,6 +158,22 @@ fn says_a_deadlock(rt: HostRuntime) -> Result<(), Fail> {
 fn says_a_runaway(rt: HostRuntime) -> Result<(), Fail> {
     let runaway = Identity::Runaway(pid(rt.alloc(), &[1])?);
     says(rt.alloc(), b"P.1 runs away", &runaway)
+}
+
+#[test]
+fn says_unread_messages(rt: HostRuntime) -> Result<(), Fail> {
+    let processes = vec![in rt.alloc(); pid(rt.alloc(), &[2])?, pid(rt.alloc(), &[3, 1])?]?;
+    says(
+        rt.alloc(),
+        b"unread messages of P.2 P.3.1",
+        &Identity::Unread(processes),
+    )
+}
+
+#[test]
+fn reads_unread_messages_of_many(rt: HostRuntime) -> Result<(), Fail> {
+    let text = nested(rt.alloc(), "unread messages of", " P.7", 9_999, "", "")?;
+    reads_back(rt.alloc(), text.as_bytes())
 }
 
 #[test]

@@ -86,6 +86,7 @@ pub(crate) fn explored<'m>(program: &'m Module, depth: u64) -> Exploration<'m> {
         flags: Flags {
             allow_deadlock: false,
             strict_access: false,
+            idle_servers: false,
         },
     }
 }

@@ -1,6 +1,7 @@
 // Texts that are no reports: the bad line, and what else is reported about them.
 use crate::texts::{
-    ALLOWED, ALONE, BOOM, BOTH, GONE, LATE, LENIENT, STRANGE, STRICT, excusing, joined,
+    ALLOWED, ALONE, BOOM, BOTH, GONE, IDLE, LATE, LENIENT, STRANGE, STRICT, UNREAD, excusing,
+    joined,
 };
 use report_reader::{MergeFault, ReportFault, merge_reports};
 use std::alloc::Global;
@@ -82,7 +83,7 @@ fn first_lines(rt: HostRuntime) -> Result<(), Fail> {
 }
 
 // Flags, a text with findings that are bad under them, and the line at which they are.
-const FINDINGS: [(Flags, &[&str], u64); 15] = [
+const FINDINGS: [(Flags, &[&str], u64); 18] = [
     // a number that is not the next
     (LENIENT, &[HEAD, "error 2: ", BOOM, ONE_ERROR], 2),
     (
@@ -115,6 +116,7 @@ const FINDINGS: [(Flags, &[&str], u64); 15] = [
     ),
     // no error under the flags, and no refusal
     (ALLOWED, &[HEAD, "error 1: ", BOTH, ONE_ERROR], 2),
+    (LENIENT, &[HEAD, "error 1: ", UNREAD, ONE_ERROR], 2),
     (
         LENIENT,
         &[
@@ -133,6 +135,13 @@ const FINDINGS: [(Flags, &[&str], u64); 15] = [
         2,
     ),
     (LENIENT, &[HEAD, "refusal 1: ", BOOM, ONE_REFUSAL], 2),
+    (IDLE, &[HEAD, "refusal 1: ", UNREAD, ONE_REFUSAL], 2),
+    // what is unread comes last
+    (
+        IDLE,
+        &[HEAD, "error 1: ", UNREAD, "error 2: ", BOTH, TWO_ERRORS],
+        4,
+    ),
     // kinds in another order
     (
         LENIENT,
@@ -174,7 +183,7 @@ fn findings(rt: HostRuntime) -> Result<(), Fail> {
 }
 
 // The same where some errors are excused.
-const EXCUSED_FINDINGS: [(Flags, &[&str], u64); 3] = [
+const EXCUSED_FINDINGS: [(Flags, &[&str], u64); 4] = [
     // excused, and listed as an error
     (
         LENIENT,
@@ -189,6 +198,7 @@ const EXCUSED_FINDINGS: [(Flags, &[&str], u64); 3] = [
     // not excused, or no error, and listed as normal
     (LENIENT, &[HEAD, "normal 1: ", GONE, ONE_IS_NORMAL], 2),
     (ALLOWED, &[HEAD, "normal 1: ", ALONE, ONE_IS_NORMAL], 2),
+    (IDLE, &[HEAD, "normal 1: ", UNREAD, ONE_IS_NORMAL], 2),
 ];
 
 #[test]

@@ -1,11 +1,14 @@
 // Reports that are put together.
-use crate::texts::{ALONE, BOOM, BOTH, GONE, LATE, LENIENT, STRANGE, excusing, joined};
+use crate::texts::{
+    ALONE, BOOM, BOTH, GONE, IDLE, LATE, LENIENT, STRANGE, UNREAD, excusing, joined,
+};
 use report_reader::merge_reports;
 use report_text::{Visited, write_report};
 use std::alloc::Global;
 use std::test::Fail;
 use test_support::{MemorySink, same};
 use tree_excuses::Excuses;
+use world_identities::Flags;
 
 // The same findings with other schedules.
 const LATER_BOOM: &str = "P ends {'boom',1}\n  P P P P.2 P\n";
@@ -17,6 +20,7 @@ const LATER_LATE: &str =
 fn comes_to(
     alloc: Global,
     above: Option<u64>,
+    flags: Flags,
     excuses: &Excuses,
     reports: &[&[&str]],
     whole: &[&str],
@@ -25,7 +29,7 @@ fn comes_to(
     for parts in reports {
         text.extend_from_slice(joined(alloc, parts)?.as_slice())?;
     }
-    let outcome = merge_reports(alloc, above, 9, LENIENT, excuses, text.as_slice())?;
+    let outcome = merge_reports(alloc, above, 9, flags, excuses, text.as_slice())?;
     let mut sink = MemorySink::with_room(alloc, 1000)?;
     write_report(&mut sink, Visited::Nodes, 9, excuses, &outcome)?;
     same(sink.bytes.as_slice(), joined(alloc, whole)?.as_slice())
@@ -77,8 +81,22 @@ const FIRST_AND_SECOND: &[&str] = &[
 #[test]
 fn findings_of_both_are_there(rt: HostRuntime) -> Result<(), Fail> {
     let none = Excuses::none(rt.alloc());
-    comes_to(rt.alloc(), None, &none, &[FIRST, SECOND], FIRST_AND_SECOND)?;
-    comes_to(rt.alloc(), None, &none, &[SECOND, FIRST], FIRST_AND_SECOND)
+    comes_to(
+        rt.alloc(),
+        None,
+        LENIENT,
+        &none,
+        &[FIRST, SECOND],
+        FIRST_AND_SECOND,
+    )?;
+    comes_to(
+        rt.alloc(),
+        None,
+        LENIENT,
+        &none,
+        &[SECOND, FIRST],
+        FIRST_AND_SECOND,
+    )
 }
 
 const ABOVE: &[&str] = &[
@@ -113,7 +131,67 @@ const ABOVE_AND_BELOW: &[&str] = &[
 #[test]
 fn normal_ones_stay_normal(rt: HostRuntime) -> Result<(), Fail> {
     let some = excusing(rt.alloc())?;
-    comes_to(rt.alloc(), Some(5), &some, &[ABOVE, BELOW], ABOVE_AND_BELOW)
+    comes_to(
+        rt.alloc(),
+        Some(5),
+        LENIENT,
+        &some,
+        &[ABOVE, BELOW],
+        ABOVE_AND_BELOW,
+    )
+}
+
+// The same unread messages with another schedule.
+const LATER_UNREAD: &str = "unread messages of P.2\n  P P P P.2 P.2 P\n";
+
+const FIRST_UNREAD: &[&str] = &[
+    "depth 9, nodes 12, complete\n",
+    "error 1: ",
+    LATER_UNREAD,
+    "normal 1: ",
+    ALONE,
+    "errors 1, refusals 0, taken as normal 1\nresult: errors\n",
+];
+
+const SECOND_UNREAD: &[&str] = &[
+    "depth 9, nodes 30, complete\n",
+    "error 1: ",
+    BOTH,
+    "error 2: ",
+    UNREAD,
+    "errors 2, refusals 0, taken as normal 0\nresult: errors\n",
+];
+
+const BOTH_UNREAD: &[&str] = &[
+    "depth 9, nodes 42, complete\n",
+    "error 1: ",
+    BOTH,
+    "error 2: ",
+    UNREAD,
+    "normal 1: ",
+    ALONE,
+    "errors 2, refusals 0, taken as normal 1\nresult: errors\n",
+];
+
+#[test]
+fn unread_messages_are_put_together(rt: HostRuntime) -> Result<(), Fail> {
+    let some = excusing(rt.alloc())?;
+    comes_to(
+        rt.alloc(),
+        None,
+        IDLE,
+        &some,
+        &[FIRST_UNREAD, SECOND_UNREAD],
+        BOTH_UNREAD,
+    )?;
+    comes_to(
+        rt.alloc(),
+        None,
+        IDLE,
+        &some,
+        &[SECOND_UNREAD, FIRST_UNREAD],
+        BOTH_UNREAD,
+    )
 }
 
 const WHOLE: &[&str] = &["depth 9, nodes 1, complete\nerrors 0, refusals 0\nresult: clean\n"];
@@ -129,8 +207,29 @@ const THREE: &[&str] = &["depth 9, nodes 3, complete\nerrors 0, refusals 0\nresu
 #[test]
 fn one_that_is_incomplete_leaves_all_so(rt: HostRuntime) -> Result<(), Fail> {
     let none = Excuses::none(rt.alloc());
-    comes_to(rt.alloc(), None, &none, &[WHOLE, LIMITED, SHORT], LIMITED)?;
-    comes_to(rt.alloc(), None, &none, &[SHORT, WHOLE, LIMITED], SHORT)?;
-    comes_to(rt.alloc(), Some(9), &none, &[WHOLE], WHOLE)?;
-    comes_to(rt.alloc(), None, &none, &[WHOLE, WHOLE, WHOLE], THREE)
+    comes_to(
+        rt.alloc(),
+        None,
+        LENIENT,
+        &none,
+        &[WHOLE, LIMITED, SHORT],
+        LIMITED,
+    )?;
+    comes_to(
+        rt.alloc(),
+        None,
+        LENIENT,
+        &none,
+        &[SHORT, WHOLE, LIMITED],
+        SHORT,
+    )?;
+    comes_to(rt.alloc(), Some(9), LENIENT, &none, &[WHOLE], WHOLE)?;
+    comes_to(
+        rt.alloc(),
+        None,
+        LENIENT,
+        &none,
+        &[WHOLE, WHOLE, WHOLE],
+        THREE,
+    )
 }

@@ -1,6 +1,7 @@
 // Reports that are read back from their texts are written so again.
 use crate::texts::{
-    ALLOWED, ALONE, AWAY, BOOM, BOTH, GONE, LATE, LENIENT, STRANGE, STRICT, excusing, joined,
+    ALLOWED, ALONE, AWAY, BOOM, BOTH, GONE, IDLE, LATE, LENIENT, STRANGE, STRICT, UNREAD, excusing,
+    joined,
 };
 use report_reader::{ReportFault, merge_reports};
 use report_text::{Visited, write_report};
@@ -163,6 +164,30 @@ fn refusals_are_errors_where_access_is_strict(rt: HostRuntime) -> Result<(), Fai
             "refusal 2: ",
             STRANGE,
             "errors 2, refusals 2\nresult: incomplete\n",
+        ],
+    )
+}
+
+#[test]
+fn unread_messages_are_errors_where_servers_have_to_be_idle(rt: HostRuntime) -> Result<(), Fail> {
+    let alloc = rt.alloc();
+    reads(
+        alloc,
+        IDLE,
+        &excusing(alloc)?,
+        &[
+            "depth 9, nodes 12, complete\n",
+            "error 1: ",
+            BOTH,
+            "error 2: ",
+            AWAY,
+            "error 3: ",
+            UNREAD,
+            "refusal 1: ",
+            LATE,
+            "normal 1: ",
+            ALONE,
+            "errors 3, refusals 1, taken as normal 1\nresult: errors\n",
         ],
     )
 }

@@ -13,6 +13,8 @@ pub(crate) const BOTH: &str = "deadlock of P P.2\n  P P P.2 P\n";
 
 pub(crate) const ALONE: &str = "deadlock of P.2\n  P P P P.2 P\n";
 
+pub(crate) const UNREAD: &str = "unread messages of P.2\n  P P P P.2 P\n";
+
 pub(crate) const AWAY: &str = "P.2.1 runs away\n  P P.2 P.2>P P.2.1\n";
 
 pub(crate) const LATE: &str =
@@ -25,18 +27,28 @@ pub(crate) const STRANGE: &str =
 pub(crate) const LENIENT: Flags = Flags {
     allow_deadlock: false,
     strict_access: false,
+    idle_servers: false,
 };
 
 // A call is an error that is refused by a rule about who may call.
 pub(crate) const STRICT: Flags = Flags {
     allow_deadlock: false,
     strict_access: true,
+    idle_servers: false,
 };
 
 // A deadlock is no error.
 pub(crate) const ALLOWED: Flags = Flags {
     allow_deadlock: true,
     strict_access: false,
+    idle_servers: false,
+};
+
+// What servers do not take is an error, where the first process has ended.
+pub(crate) const IDLE: Flags = Flags {
+    allow_deadlock: false,
+    strict_access: false,
+    idle_servers: true,
 };
 
 // An end with `{'boom',1}` is excused, and a deadlock in which the first process does not wait.

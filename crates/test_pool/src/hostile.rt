@@ -31,6 +31,7 @@ fn options(depth: u64) -> Options
         flags: Flags {
             allow_deadlock: false,
             strict_access: false,
+            idle_servers: false,
         },
     }
 }

@@ -13,6 +13,10 @@ const TWO_END_BADLY: &str =
 const SERVER_WAITS: &str =
     "module 'm' ['main'/0,'c'/0] attributes [] 'main'/0 = fun () -> call 'erlang':'spawn'('m','c',[]) 'c'/0 = fun () -> receive <X> when 'true' -> X after 'infinity' -> 'x' end\n";
 
+// A server never takes the message that it gets, and waits on after the first process has ended.
+const SERVER_KEEPS: &str =
+    "module 'm' ['main'/0,'s'/0] attributes [] 'main'/0 = fun () -> let <S> = call 'erlang':'spawn'('m','s',[]) in do call 'erlang':'!'(S,'late') 'ok' 's'/0 = fun () -> receive <'go'> when 'true' -> 'x' after 'infinity' -> 'x' end\n";
+
 // The first process waits for a message that does not come.
 const FIRST_WAITS: &str =
     "module 'm' ['main'/0] attributes [] 'main'/0 = fun () -> receive <X> when 'true' -> X after 'infinity' -> 'x' end\n";
@@ -68,6 +72,57 @@ errors 0, refusals 0, taken as normal 1
 result: clean, all schedules
 ";
 
+const UNREAD_IS_NOT: &str = "depth 5, nodes 6, complete, cut 0
+error 1: unread messages of P.1
+  P P P P>P.1
+    1 P erlang:spawn('m','s',[]) -> P.1
+    2 P erlang:!(P.1,'late') -> 'late'
+    3 P ends 'normal'
+    4 P>P.1 brings 'late'
+    P.1 waits, mailbox ['late']
+normal 1: deadlock of P.1
+  P P P P>P.1
+    1 P erlang:spawn('m','s',[]) -> P.1
+    2 P erlang:!(P.1,'late') -> 'late'
+    3 P ends 'normal'
+    4 P>P.1 brings 'late'
+    P.1 waits, mailbox ['late']
+errors 1, refusals 0, taken as normal 1
+result: errors, all schedules
+";
+
+const UNREAD_OF_STATES: &str = "depth 5, states 6, complete
+error 1: unread messages of P.1
+  P P P P>P.1
+normal 1: deadlock of P.1
+  P P P P>P.1
+errors 1, refusals 0, taken as normal 1
+result: errors
+";
+
+const UNREAD_AT_ONCE: &str = "depth 5, states 5, complete
+error 1: unread messages of P.1
+  P P P>P.1 P
+normal 1: deadlock of P.1
+  P P P>P.1 P
+errors 1, refusals 0, taken as normal 1
+result: errors
+";
+
+const UNREAD_IS_NO_ERROR: &str = "depth 5, nodes 6, complete
+normal 1: deadlock of P.1
+  P P P P>P.1
+errors 0, refusals 0, taken as normal 1
+result: clean
+";
+
+const DEADLOCK_ALONE: &str = "depth 5, nodes 6, complete
+error 1: deadlock of P.1
+  P P P P>P.1
+errors 1, refusals 0
+result: errors
+";
+
 const FIRST_IS_NOT: &str =
     "depth 5, nodes 1, complete, cut 0\nerror 1: deadlock of P\n  \n    P waits, mailbox []\nerrors 1, refusals 0, taken as normal 0\nresult: errors, all schedules\n";
 
@@ -90,7 +145,7 @@ result: clean
 ";
 
 // A module, the words after the name of the program, the report, and the status.
-const ROWS: [(&str, &[&str], &str, u8); 9] = [
+const ROWS: [(&str, &[&str], &str, u8); 16] = [
     (
         TWO_END_BADLY,
         &["explore", "--depth", "3", "--normal", "'boom'", "--cover"],
@@ -151,6 +206,49 @@ const ROWS: [(&str, &[&str], &str, u8); 9] = [
         FIRST_WAITS,
         &["explore", "--main-deadlock", "--depth", "5", "--explain"],
         FIRST_IS_NOT,
+        1,
+    ),
+    (
+        SERVER_WAITS,
+        &["explore", "--idle-servers", "--depth", "5", "--explain"],
+        SERVER_IS_NORMAL,
+        0,
+    ),
+    (
+        FIRST_WAITS,
+        &["explore", "--depth", "5", "--explain", "--idle-servers"],
+        FIRST_IS_NOT,
+        1,
+    ),
+    (
+        SERVER_KEEPS,
+        &["explore", "--depth", "5", "--explain", "--idle-servers"],
+        UNREAD_IS_NOT,
+        1,
+    ),
+    (
+        SERVER_KEEPS,
+        &["explore", "--states", "--depth", "5", "--idle-servers"],
+        UNREAD_OF_STATES,
+        1,
+    ),
+    (
+        SERVER_KEEPS,
+        &["explore", "--at-once", "--depth", "5", "--idle-servers"],
+        UNREAD_AT_ONCE,
+        1,
+    ),
+    // without the option it is listed nowhere
+    (
+        SERVER_KEEPS,
+        &["explore", "--depth", "5", "--main-deadlock"],
+        UNREAD_IS_NO_ERROR,
+        0,
+    ),
+    (
+        SERVER_KEEPS,
+        &["explore", "--depth", "5"],
+        DEADLOCK_ALONE,
         1,
     ),
     (

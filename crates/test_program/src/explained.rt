@@ -119,6 +119,7 @@ fn options(depth: u64, nodes: u64, workers: u64) -> Options
         flags: Flags {
             allow_deadlock: false,
             strict_access: false,
+            idle_servers: false,
         },
     }
 }
@@ -138,6 +139,7 @@ fn explains_what_it_found(rt: HostRuntime) -> Result<(), Fail> {
                 Printed {
                     explained: true,
                     cover: false,
+                    terms: false,
                 },
                 &Unwatched,
                 &mut sink,

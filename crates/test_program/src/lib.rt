@@ -15,3 +15,7 @@ mod merge;
 mod patterns;
 #[cfg(test)]
 mod replays;
+#[cfg(test)]
+mod samples;
+#[cfg(test)]
+mod terms;

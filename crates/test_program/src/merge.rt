@@ -78,6 +78,36 @@ errors 1, refusals 0, taken as normal 1
 result: errors
 ";
 
+// A server does not take a message after the first process has ended: the nodes to two steps, the job in which the first
+// process ends before the message comes, the job in which it ends after that, and the whole tree.
+const ABOVE_UNREAD: &str = "depth 2, nodes 3, complete
+errors 0, refusals 0, taken as normal 0
+result: clean
+";
+
+const UNREAD: &str = "depth 5, nodes 2, complete
+error 1: unread messages of P.1
+  P P P P>P.1
+normal 1: deadlock of P.1
+  P P P P>P.1
+errors 1, refusals 0, taken as normal 1
+result: errors
+";
+
+const NONE_UNREAD: &str = "depth 5, nodes 1, complete
+errors 0, refusals 0, taken as normal 0
+result: clean
+";
+
+const WHOLE_UNREAD: &str = "depth 5, nodes 6, complete
+error 1: unread messages of P.1
+  P P P P>P.1
+normal 1: deadlock of P.1
+  P P P P>P.1
+errors 1, refusals 0, taken as normal 1
+result: errors
+";
+
 // A call that is refused.
 const REFUSED: &str = "depth 3, nodes 4, complete
 refusal 1: P.2 request 1 ets:insert('t',{'a',1}) -> badarg (2 NoTable)
@@ -115,7 +145,7 @@ type Row = (
     u8,
 );
 
-const ROWS: [Row; 17] = [
+const ROWS: [Row; 19] = [
     (
         &["merge", "--depth", "3", "--at", "2"],
         &[ABOVE, FIRST_ENDS, SECOND_ENDS],
@@ -177,6 +207,21 @@ const ROWS: [Row; 17] = [
         &[],
         "",
         "report: 1 BadLine at line 1\n",
+        2,
+    ),
+    (
+        &["merge", "--depth", "5", "--at", "3", "--idle-servers"],
+        &[ABOVE_UNREAD, UNREAD, NONE_UNREAD],
+        WHOLE_UNREAD,
+        "",
+        1,
+    ),
+    // What is unread is no error without the option.
+    (
+        &["merge", "--depth", "5", "--at", "0", "--main-deadlock"],
+        &[WHOLE_UNREAD],
+        "",
+        "report: 1 BadLine at line 2\n",
         2,
     ),
     // The report of the tree above comes first.

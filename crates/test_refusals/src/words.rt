@@ -1,13 +1,13 @@
 // The words of the command line.
 use program_runs::{NAME, Printed, Words, read_words, run_to_exit};
 use search_expansion::Unwatched;
+use search_samples::Samples;
 use std::process::ExitCode;
 use std::test::Fail;
-use term_core::write_term;
 use test_support::{MemorySink, MemorySource, same};
-use tree_excuses::Excuses;
 use tree_findings::Search;
 use tree_schedules::Delivery;
+use world_identities::Flags;
 
 // Blanks stay as they are.
 #[test]
@@ -24,20 +24,35 @@ fn reads_the_words_of_a_replay(rt: HostRuntime) -> Result<(), Fail> {
 const PLAIN: Printed = Printed {
     explained: false,
     cover: false,
+    terms: false,
 };
 
 const COVERED: Printed = Printed {
     explained: false,
     cover: true,
+    terms: false,
 };
 
 const EXPLAINED: Printed = Printed {
     explained: true,
     cover: false,
+    terms: false,
+};
+
+const AS_TERMS: Printed = Printed {
+    explained: false,
+    cover: false,
+    terms: true,
+};
+
+const EXPLAINED_AS_TERMS: Printed = Printed {
+    explained: true,
+    cover: false,
+    terms: true,
 };
 
 // Words of an exploration, and its depth, its limit of nodes, its flags, and what it prints.
-const EXPLORATIONS: [(&[&str], u64, u64, bool, bool, Printed); 6] = [
+const EXPLORATIONS: [(&[&str], u64, u64, bool, bool, Printed); 11] = [
     (
         &[NAME, "explore", "--depth", "0"],
         0,
@@ -101,6 +116,68 @@ const EXPLORATIONS: [(&[&str], u64, u64, bool, bool, Printed); 6] = [
         false,
         EXPLAINED,
     ),
+    (
+        &[NAME, "explore", "--depth", "3", "--format", "terms"],
+        3,
+        1_000_000,
+        false,
+        false,
+        AS_TERMS,
+    ),
+    (
+        &[NAME, "explore", "--format", "text", "--depth", "3"],
+        3,
+        1_000_000,
+        false,
+        false,
+        PLAIN,
+    ),
+    (
+        &[
+            NAME,
+            "explore",
+            "--explain",
+            "--format",
+            "terms",
+            "--strict-access",
+            "--depth",
+            "3",
+            "--nodes",
+            "5",
+        ],
+        3,
+        5,
+        false,
+        true,
+        EXPLAINED_AS_TERMS,
+    ),
+    (
+        &[
+            NAME,
+            "explore",
+            "--format",
+            "text",
+            "--explain",
+            "--allow-deadlock",
+            "--depth",
+            "3",
+        ],
+        3,
+        1_000_000,
+        true,
+        false,
+        EXPLAINED,
+    ),
+    (
+        &[
+            NAME, "explore", "--cover", "--depth", "3", "--format", "text",
+        ],
+        3,
+        1_000_000,
+        false,
+        false,
+        COVERED,
+    ),
 ];
 
 #[test]
@@ -113,6 +190,7 @@ fn reads_the_words_of_an_exploration(rt: HostRuntime) -> Result<(), Fail> {
         assert_eq!(rt; options.nodes, nodes);
         assert_eq!(rt; options.flags.allow_deadlock, allow_deadlock);
         assert_eq!(rt; options.flags.strict_access, strict_access);
+        assert!(rt; !options.flags.idle_servers);
         assert_eq!(rt; printed, wanted);
         assert!(rt; !excuses.are_any());
     }
@@ -120,7 +198,7 @@ fn reads_the_words_of_an_exploration(rt: HostRuntime) -> Result<(), Fail> {
 }
 
 // Words of an exploration, and how it searches, its workers, and what it prints.
-const SEARCHES: [(&[&str], Search, u64, Printed); 9] = [
+const SEARCHES: [(&[&str], Search, u64, Printed); 12] = [
     (&[NAME, "explore", "--depth", "3"], Search::ByTree, 1, PLAIN),
     (
         &[NAME, "explore", "--depth", "3", "--states"],
@@ -187,6 +265,45 @@ const SEARCHES: [(&[&str], Search, u64, Printed); 9] = [
         4,
         COVERED,
     ),
+    (
+        &[
+            NAME,
+            "explore",
+            "--format",
+            "terms",
+            "--workers",
+            "4",
+            "--depth",
+            "3",
+        ],
+        Search::ByTree,
+        4,
+        AS_TERMS,
+    ),
+    (
+        &[
+            NAME, "explore", "--states", "--depth", "3", "--format", "terms",
+        ],
+        Search::ByStates(Delivery::AnyTime),
+        1,
+        AS_TERMS,
+    ),
+    (
+        &[
+            NAME,
+            "explore",
+            "--at-once",
+            "--format",
+            "terms",
+            "--explain",
+            "--depth",
+            "3",
+            "--states",
+        ],
+        Search::ByStates(Delivery::AtOnce),
+        1,
+        EXPLAINED_AS_TERMS,
+    ),
 ];
 
 #[test]
@@ -231,12 +348,13 @@ fn reads_the_words_of_a_check(rt: HostRuntime) -> Result<(), Fail> {
         assert!(rt; !excuses.are_any());
         assert_eq!(rt; flags.allow_deadlock, allow_deadlock);
         assert_eq!(rt; flags.strict_access, strict_access);
+        assert!(rt; !flags.idle_servers);
     }
     Ok(())
 }
 
 // Words of an exploration of one job, and its depth, what it excuses, and the line of the job.
-const ONE_JOB: [(&[&str], u64, bool, &str); 5] = [
+const ONE_JOB: [(&[&str], u64, bool, &str); 6] = [
     (
         &[NAME, "explore", "--depth", "4", "--job", "P P.1 | P"],
         4,
@@ -274,6 +392,14 @@ const ONE_JOB: [(&[&str], u64, bool, &str); 5] = [
         0,
         false,
         "",
+    ),
+    (
+        &[
+            NAME, "explore", "--format", "text", "--depth", "4", "--job", "P | ",
+        ],
+        4,
+        false,
+        "P | ",
     ),
 ];
 
@@ -415,103 +541,199 @@ fn reads_the_words_of_a_merge(rt: HostRuntime) -> Result<(), Fail> {
         assert_eq!(rt; place, at);
         assert_eq!(rt; flags.allow_deadlock, allow_deadlock);
         assert_eq!(rt; flags.strict_access, strict_access);
+        assert!(rt; !flags.idle_servers);
         assert!(rt; !excuses.are_any());
     }
     Ok(())
 }
 
-// Words that excuse something: whether deadlocks count only where the first process waits, and the texts of the reasons.
-const EXCUSES: [(&[&str], bool, &[&str]); 6] = [
+const NO_FLAGS: Flags = Flags {
+    allow_deadlock: false,
+    strict_access: false,
+    idle_servers: false,
+};
+
+// Words of random schedules, how these are taken, and what is printed of them.
+const SAMPLES: [(&[&str], Samples, Printed); 10] = [
     (
-        &[NAME, "explore", "--depth", "1", "--main-deadlock"],
-        true,
-        &[],
-    ),
-    (
-        &[NAME, "explore", "--normal", "'boom'", "--depth", "1"],
-        false,
-        &["'boom'"],
-    ),
-    (
-        &[
-            NAME, "explore", "--normal", "'boom'", "--depth", "1", "--job", "P | ", "--normal", "7",
-        ],
-        false,
-        &["'boom'", "7"],
-    ),
-    (
-        &[
-            NAME,
-            "check",
-            "--normal",
-            "{'shutdown',[1,2|'x']}",
-            "--depth",
-            "1",
-            "--main-deadlock",
-            "--normal",
-            "[]",
-            "--normal",
-            "{'shutdown',[1,2|'x']}",
-        ],
-        true,
-        &["{'shutdown',[1,2|'x']}", "[]", "{'shutdown',[1,2|'x']}"],
-    ),
-    (
-        &[
-            NAME, "check", "--depth", "1", "--normal", "[]", "--normal", "[]", "--normal", "[]",
-            "--normal", "[]", "--normal", "[]", "--normal", "[]", "--normal", "[]", "--normal",
-            "[]", "--normal", "[]", "--normal", "[]", "--normal", "[]", "--normal", "[]",
-            "--normal", "[]", "--normal", "[]", "--normal", "[]", "--normal", "[]",
-        ],
-        false,
-        &[
-            "[]", "[]", "[]", "[]", "[]", "[]", "[]", "[]", "[]", "[]", "[]", "[]", "[]", "[]",
-            "[]", "[]",
-        ],
+        &[NAME, "sample", "--depth", "0"],
+        Samples {
+            depth: 0,
+            runs: 1000,
+            seed: 1,
+            delivery: Delivery::AnyTime,
+            flags: NO_FLAGS,
+        },
+        PLAIN,
     ),
     (
         &[
             NAME,
-            "merge",
-            "--normal",
-            "{'shutdown',[1,2|'x']}",
-            "--main-deadlock",
-            "--at",
-            "1",
+            "sample",
             "--depth",
+            "400",
+            "--runs",
+            "1000000",
+            "--seed",
+            "4294967295",
+        ],
+        Samples {
+            depth: 400,
+            runs: 1_000_000,
+            seed: 4_294_967_295,
+            delivery: Delivery::AnyTime,
+            flags: NO_FLAGS,
+        },
+        PLAIN,
+    ),
+    (
+        &[NAME, "sample", "--seed", "0", "--runs", "1", "--depth", "7"],
+        Samples {
+            depth: 7,
+            runs: 1,
+            seed: 0,
+            delivery: Delivery::AnyTime,
+            flags: NO_FLAGS,
+        },
+        PLAIN,
+    ),
+    (
+        &[NAME, "sample", "--at-once", "--depth", "60"],
+        Samples {
+            depth: 60,
+            runs: 1000,
+            seed: 1,
+            delivery: Delivery::AtOnce,
+            flags: NO_FLAGS,
+        },
+        PLAIN,
+    ),
+    (
+        &[NAME, "sample", "--depth", "60", "--explain", "--seed", "2"],
+        Samples {
+            depth: 60,
+            runs: 1000,
+            seed: 2,
+            delivery: Delivery::AnyTime,
+            flags: NO_FLAGS,
+        },
+        EXPLAINED,
+    ),
+    (
+        &[
+            NAME,
+            "sample",
+            "--allow-deadlock",
+            "--depth",
+            "60",
+            "--runs",
+            "50",
+        ],
+        Samples {
+            depth: 60,
+            runs: 50,
+            seed: 1,
+            delivery: Delivery::AnyTime,
+            flags: Flags {
+                allow_deadlock: true,
+                strict_access: false,
+                idle_servers: false,
+            },
+        },
+        PLAIN,
+    ),
+    (
+        &[
+            NAME,
+            "sample",
+            "--explain",
+            "--strict-access",
+            "--runs",
+            "50",
+            "--at-once",
+            "--seed",
+            "3",
+            "--depth",
+            "60",
+        ],
+        Samples {
+            depth: 60,
+            runs: 50,
+            seed: 3,
+            delivery: Delivery::AtOnce,
+            flags: Flags {
+                allow_deadlock: false,
+                strict_access: true,
+                idle_servers: false,
+            },
+        },
+        EXPLAINED,
+    ),
+    (
+        &[NAME, "sample", "--depth", "60", "--format", "terms"],
+        Samples {
+            depth: 60,
+            runs: 1000,
+            seed: 1,
+            delivery: Delivery::AnyTime,
+            flags: NO_FLAGS,
+        },
+        AS_TERMS,
+    ),
+    (
+        &[
+            NAME,
+            "sample",
+            "--format",
+            "terms",
+            "--seed",
             "2",
-            "--normal",
-            "'boom'",
+            "--explain",
+            "--at-once",
+            "--depth",
+            "60",
         ],
-        true,
-        &["{'shutdown',[1,2|'x']}", "'boom'"],
+        Samples {
+            depth: 60,
+            runs: 1000,
+            seed: 2,
+            delivery: Delivery::AtOnce,
+            flags: NO_FLAGS,
+        },
+        EXPLAINED_AS_TERMS,
+    ),
+    (
+        &[
+            NAME,
+            "sample",
+            "--explain",
+            "--depth",
+            "60",
+            "--format",
+            "text",
+            "--runs",
+            "50",
+        ],
+        Samples {
+            depth: 60,
+            runs: 50,
+            seed: 1,
+            delivery: Delivery::AnyTime,
+            flags: NO_FLAGS,
+        },
+        EXPLAINED,
     ),
 ];
 
-// What words excuse.
-fn excuses_of(words: Words) -> Option<Excuses> {
-    match words {
-        Words::Explore(_, excuses, _) => Some(excuses),
-        Words::ExploreJob(_, excuses, _) => Some(excuses),
-        Words::Check(_, _, excuses) => Some(excuses),
-        Words::Merge(_, _, _, excuses) => Some(excuses),
-        Words::Replay(_) | Words::Jobs(_) => None,
-    }
-}
-
 #[test]
-fn reads_what_is_excused(rt: HostRuntime) -> Result<(), Fail> {
-    for (words, main_deadlock, texts) in EXCUSES {
-        let Some(excuses) = excuses_of(read_words(rt.alloc(), words)?) else {
-            return Err(Fail::from("the words excuse nothing"));
+fn reads_the_words_of_random_schedules(rt: HostRuntime) -> Result<(), Fail> {
+    for (words, wanted, prints) in SAMPLES {
+        let Words::Sample(samples, excuses, printed) = read_words(rt.alloc(), words)? else {
+            return Err(Fail::from("the words ask for no random schedules"));
         };
-        assert_eq!(rt; excuses.main_deadlock, main_deadlock);
-        assert_eq!(rt; excuses.normal.len(), texts.len());
-        for (term, text) in excuses.normal.iter().zip(texts) {
-            let mut sink = MemorySink::with_room(rt.alloc(), 100)?;
-            write_term(term, &mut sink)?;
-            same(sink.bytes.as_slice(), text.as_bytes())?;
-        }
+        assert_eq!(rt; samples, wanted);
+        assert_eq!(rt; printed, prints);
+        assert!(rt; !excuses.are_any());
     }
     Ok(())
 }

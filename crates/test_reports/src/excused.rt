@@ -15,7 +15,7 @@ use world_model::rule::Rule;
 
 // The first process makes a table, makes another process, and reads. Where it finds nothing it ends with `{'boom',1}`, and
 // its table goes; else it waits for ever. The other process writes, and waits for ever; where the table is gone it ends.
-const RACE: &str =
+pub(super) const RACE: &str =
     "module 'm' ['main'/0,'c'/0] attributes [] 'main'/0 = fun () -> do call 'ets':'new'('t',['named_table','public']) do call 'erlang':'spawn'('m','c',[]) case call 'ets':'lookup'('t','a') of <[]> when 'true' -> call 'erlang':'exit'({'boom',1}) <X> when 'true' -> receive <Y> when 'true' -> Y after 'infinity' -> 'x' end 'c'/0 = fun () -> do call 'ets':'insert'('t',{'a',1}) receive <Y> when 'true' -> Y after 'infinity' -> 'x' end";
 
 // The two processes.
@@ -24,33 +24,34 @@ const P: &[u64] = &[];
 const P_2: &[u64] = &[2];
 
 // The first process ends.
-const BOOM: &str = "P ends {'boom',1}\n  P P P P\n";
+pub(super) const BOOM: &str = "P ends {'boom',1}\n  P P P P\n";
 
-const BOOM_STEPS: &str =
+pub(super) const BOOM_STEPS: &str =
     "    1 P ets:new('t',['named_table','public']) -> 't'\n    2 P erlang:spawn('m','c',[]) -> P.2\n    3 P ets:lookup('t','a') -> []\n    4 P ends {'boom',1}\n";
 
 // The other one finds no table.
-const LATE: &str = "P.2 request 1 ets:insert('t',{'a',1}) -> badarg (2 NoTable)\n  P P P P P.2\n";
+pub(super) const LATE: &str =
+    "P.2 request 1 ets:insert('t',{'a',1}) -> badarg (2 NoTable)\n  P P P P P.2\n";
 
-const LATE_STEPS: &str =
+pub(super) const LATE_STEPS: &str =
     "    1 P ets:new('t',['named_table','public']) -> 't'\n    2 P erlang:spawn('m','c',[]) -> P.2\n    3 P ets:lookup('t','a') -> []\n    4 P ends {'boom',1}\n    5 P.2 ets:insert('t',{'a',1}) -> badarg (2 NoTable)\n";
 
 // And ends so.
-const GONE: &str = "P.2 ends {'badarg',[]}\n  P P P P P.2 P.2\n";
+pub(super) const GONE: &str = "P.2 ends {'badarg',[]}\n  P P P P P.2 P.2\n";
 
-const GONE_STEPS: &str =
+pub(super) const GONE_STEPS: &str =
     "    1 P ets:new('t',['named_table','public']) -> 't'\n    2 P erlang:spawn('m','c',[]) -> P.2\n    3 P ets:lookup('t','a') -> []\n    4 P ends {'boom',1}\n    5 P.2 ets:insert('t',{'a',1}) -> badarg (2 NoTable)\n    6 P.2 ends {'badarg',[]}\n";
 
 // Both wait.
-const BOTH: &str = "deadlock of P P.2\n  P P P.2 P\n";
+pub(super) const BOTH: &str = "deadlock of P P.2\n  P P P.2 P\n";
 
-const BOTH_STEPS: &str =
+pub(super) const BOTH_STEPS: &str =
     "    1 P ets:new('t',['named_table','public']) -> 't'\n    2 P erlang:spawn('m','c',[]) -> P.2\n    3 P.2 ets:insert('t',{'a',1}) -> 'true'\n    4 P ets:lookup('t','a') -> [{'a',1}]\n    P waits, mailbox []\n    P.2 waits, mailbox []\n";
 
 // The other one waits alone.
-const ALONE: &str = "deadlock of P.2\n  P P P P.2 P\n";
+pub(super) const ALONE: &str = "deadlock of P.2\n  P P P P.2 P\n";
 
-const ALONE_STEPS: &str =
+pub(super) const ALONE_STEPS: &str =
     "    1 P ets:new('t',['named_table','public']) -> 't'\n    2 P erlang:spawn('m','c',[]) -> P.2\n    3 P ets:lookup('t','a') -> []\n    4 P.2 ets:insert('t',{'a',1}) -> 'true'\n    5 P ends {'boom',1}\n    P.2 waits, mailbox []\n";
 
 // The term `{'boom',1}`.
@@ -112,7 +113,7 @@ fn find(
 }
 
 // What is found in the race.
-fn of_race(alloc: Global) -> Result<Findings, AllocError> {
+pub(super) fn of_race(alloc: Global) -> Result<Findings, AllocError> {
     let mut found = Findings::new(alloc);
     let ends = end_of(alloc, P, boom(alloc)?)?;
     find(alloc, &mut found, ends, &[P, P, P, P])?;
@@ -127,7 +128,7 @@ fn of_race(alloc: Global) -> Result<Findings, AllocError> {
 }
 
 // The end of the first process alone.
-fn of_boom(alloc: Global) -> Result<Findings, AllocError> {
+pub(super) fn of_boom(alloc: Global) -> Result<Findings, AllocError> {
     let mut found = Findings::new(alloc);
     let ends = end_of(alloc, P, boom(alloc)?)?;
     find(alloc, &mut found, ends, &[P, P, P, P])?;
@@ -140,7 +141,7 @@ fn complete(findings: Findings) -> Outcome {
 }
 
 // An end with `{'boom',1}` is excused.
-fn excusing_boom(alloc: Global) -> Result<Excuses, AllocError> {
+pub(super) fn excusing_boom(alloc: Global) -> Result<Excuses, AllocError> {
     Ok(Excuses {
         main_deadlock: false,
         normal: vec![in alloc; boom(alloc)?]?,
@@ -148,7 +149,7 @@ fn excusing_boom(alloc: Global) -> Result<Excuses, AllocError> {
 }
 
 // So is a deadlock in which the first process does not wait.
-fn excusing_both(alloc: Global) -> Result<Excuses, AllocError> {
+pub(super) fn excusing_both(alloc: Global) -> Result<Excuses, AllocError> {
     Ok(Excuses {
         main_deadlock: true,
         normal: vec![in alloc; Term::Nil, boom(alloc)?]?,
@@ -156,7 +157,7 @@ fn excusing_both(alloc: Global) -> Result<Excuses, AllocError> {
 }
 
 // These texts, one after another.
-fn joined(alloc: Global, parts: &[&str]) -> Result<Vec<u8>, AllocError> {
+pub(super) fn joined(alloc: Global, parts: &[&str]) -> Result<Vec<u8>, AllocError> {
     let mut text = Vec::new(alloc);
     for part in parts {
         text.extend_from_slice(part.as_bytes())?;

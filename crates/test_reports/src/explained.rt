@@ -7,7 +7,7 @@ use report_text::{Visited, write_explained_first_line, write_explained_last_line
 use std::alloc::{AllocError, Global};
 use std::sync::Arc;
 use std::test::Fail;
-use term_core::{Pid, Step, Term, Terms};
+use term_core::{Pid, Step, Term, Terms, read_schedule};
 use test_support::{MemorySink, holds, same};
 use tree_excuses::Excuses;
 use tree_findings::{Cause, Extent, Findings, Outcome};
@@ -22,11 +22,18 @@ const NO_TABLE_EXPLAINED: &str =
     "depth 2, nodes 3, complete, cut 0\nerror 1: P ends {'badarg',[]}\n  P P\n    1 P ets:lookup('t','a') -> badarg (2 NoTable)\n    2 P ends {'badarg',[]}\nrefusal 1: P request 1 ets:lookup('t','a') -> badarg (2 NoTable)\n  P\n    1 P ets:lookup('t','a') -> badarg (2 NoTable)\nerrors 1, refusals 1\nresult: errors, all schedules\n";
 
 // A process sends itself three messages, takes the second, and waits for one that never comes; another waits for any.
-const WAITS: &str =
+pub(super) const WAITS: &str =
     "module 'm' ['main'/0,'c'/0] attributes [] 'main'/0 = fun () -> let <Me> = call 'erlang':'self'() in do call 'erlang':'spawn'('m','c',[]) do call 'erlang':'!'(Me,'a') do call 'erlang':'!'(Me,'z') do call 'erlang':'!'(Me,{'b',1}) do receive <'z'> when 'true' -> 'z' after 'infinity' -> 'x' receive <'y'> when 'true' -> 'y' after 'infinity' -> 'x' 'c'/0 = fun () -> receive <X> when 'true' -> X after 'infinity' -> 'x' end";
 
 const WAITS_EXPLAINED: &str =
     "depth 9, nodes 6, complete, cut 0\nerror 1: deadlock of P P.1\n  P P P P P\n    1 P erlang:spawn('m','c',[]) -> P.1\n    2 P erlang:!(P,'a') -> 'a'\n    3 P erlang:!(P,'z') -> 'z'\n    4 P erlang:!(P,{'b',1}) -> {'b',1}\n    5 P receives 'z'\n    P waits, mailbox ['a',{'b',1}]\n    P.1 waits, mailbox []\nerrors 1, refusals 0\nresult: errors, all schedules\n";
+
+// A process gets two messages, takes the second, and waits for one that never comes; the first process has ended.
+const LEAVES: &str =
+    "module 'm' ['main'/0,'c'/0] attributes [] 'main'/0 = fun () -> let <C> = call 'erlang':'spawn'('m','c',[]) in do call 'erlang':'!'(C,'a') call 'erlang':'!'(C,'z') 'c'/0 = fun () -> do receive <'z'> when 'true' -> 'z' after 'infinity' -> 'x' receive <'y'> when 'true' -> 'y' after 'infinity' -> 'x' end";
+
+const LEAVES_EXPLAINED: &str =
+    "depth 9, nodes 8, complete, cut 0\nerror 1: unread messages of P.1\n  P P P P P>P.1 P>P.1 P.1\n    1 P erlang:spawn('m','c',[]) -> P.1\n    2 P erlang:!(P.1,'a') -> 'a'\n    3 P erlang:!(P.1,'z') -> 'z'\n    4 P ends 'normal'\n    5 P>P.1 brings 'a'\n    6 P>P.1 brings 'z'\n    7 P.1 receives 'z'\n    P.1 waits, mailbox ['a']\nerrors 1, refusals 0\nresult: errors, all schedules\n";
 
 // So many turns of the first process.
 fn turns(alloc: Global, count: usize) -> Result<Vec<Step>, AllocError> {
@@ -37,7 +44,7 @@ fn turns(alloc: Global, count: usize) -> Result<Vec<Step>, AllocError> {
     Ok(steps)
 }
 
-// Adds what one schedule shows.
+// Adds what one schedule shows. What is unread is an error too.
 pub(super) fn note(
     alloc: Global,
     findings: &mut Findings,
@@ -47,6 +54,7 @@ pub(super) fn note(
     let flags = Flags {
         allow_deadlock: false,
         strict_access: false,
+        idle_servers: true,
     };
     let shown = vec![in alloc; identity]?;
     findings.note(alloc, flags, shown.as_slice(), schedule)
@@ -85,7 +93,7 @@ pub(super) fn of_no_table(alloc: Global) -> Result<Outcome, AllocError> {
 }
 
 // What is found in the module that waits.
-fn of_waits(alloc: Global) -> Result<Outcome, AllocError> {
+pub(super) fn of_waits(alloc: Global) -> Result<Outcome, AllocError> {
     let mut findings = Findings::new(alloc);
     let schedule = turns(alloc, 5)?;
     let processes: Vec<Pid> = vec![in alloc; pid(alloc, &[])?, pid(alloc, &[1])?]?;
@@ -96,6 +104,20 @@ fn of_waits(alloc: Global) -> Result<Outcome, AllocError> {
         schedule.as_slice(),
     )?;
     Ok(Outcome::Complete(findings, Extent { nodes: 6, cut: 0 }))
+}
+
+// What is found in the module in which a message stays.
+fn of_leaves(alloc: Global) -> Result<Outcome, Fail> {
+    let mut findings = Findings::new(alloc);
+    let schedule = read_schedule(alloc, b"P P P P P>P.1 P>P.1 P.1")?;
+    let processes: Vec<Pid> = vec![in alloc; pid(alloc, &[1])?]?;
+    note(
+        alloc,
+        &mut findings,
+        Identity::Unread(processes),
+        schedule.as_slice(),
+    )?;
+    Ok(Outcome::Complete(findings, Extent { nodes: 8, cut: 0 }))
 }
 
 // Checks that the first and the last line are these, where nothing is excused.
@@ -217,6 +239,18 @@ fn explains_a_deadlock(rt: HostRuntime) -> Result<(), Fail> {
     let report = WAITS_EXPLAINED.as_bytes();
     for piece in [1, 1000] {
         explains(alloc, WAITS, 9, &none, &outcome, report, piece)?;
+    }
+    Ok(())
+}
+
+#[test]
+fn explains_unread_messages(rt: HostRuntime) -> Result<(), Fail> {
+    let alloc = rt.alloc();
+    let none = Excuses::none(alloc);
+    let outcome = of_leaves(alloc)?;
+    let report = LEAVES_EXPLAINED.as_bytes();
+    for piece in [1, 1000] {
+        explains(alloc, LEAVES, 9, &none, &outcome, report, piece)?;
     }
     Ok(())
 }

@@ -101,8 +101,8 @@ fn is_among(identity: &Identity, all: &FindingList) -> bool {
         .any(|finding| finding.identity == *identity)
 }
 
-// Whether each identity of the first list is in the second.
-fn are_among(some: &FindingList, all: &FindingList) -> bool {
+/// Whether each identity of the first list is in the second.
+pub(crate) fn are_among(some: &FindingList, all: &FindingList) -> bool {
     for finding in some.as_slice() {
         if !is_among(&finding.identity, all) {
             return false;

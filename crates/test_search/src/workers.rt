@@ -29,6 +29,7 @@ pub(crate) fn options(depth: u64, budget: u64, workers: u64) -> Options
         flags: Flags {
             allow_deadlock: false,
             strict_access: false,
+            idle_servers: false,
         },
     }
 }

@@ -29,7 +29,7 @@ use Rattle.tree_sleep_sets.specs.Shown.{SignLaws}
 use Rattle.tree_sleep_sets.specs.System.{Takes, Commute, Laws}
 use Rattle.tree_coverage.specs.Explored.{Happening, happening, recorded, explored, choice, signs}
 use Rattle.tree_coverage.proofs.Lists.{both_first, both_second, to_theory}
-use Rattle.world_model.proofs.StepLists.{same_next, same_after, same_deadlock}
+use Rattle.world_model.proofs.StepLists.{same_next, same_after, same_at_rest}
 
 some_is : {A : Type 0} (x y : A) → Some x ≡ Some y → x ≡ y
 some_is x y e = cc
@@ -168,4 +168,4 @@ choice_laws a = record {
 }
 
 pub sign_laws : (a : Program) → SignLaws (explored a) (signs a)
-sign_laws a = record { same_shown = λ v w i same shows. subst (λ is. IsAmong i is) (same_deadlock a v w same) shows }
+sign_laws a = record { same_shown = λ v w i same shows. subst (λ is. IsAmong i is) (same_at_rest a v w same) shows }

@@ -8,8 +8,8 @@ use Rattle.world_model.specs.Events.{Event, History}
 use Rattle.world_model.specs.Independence.{are_independent}
 use Rattle.world_model.specs.Names.{IsAmong}
 use Rattle.world_model.specs.Requests.{Program}
-use Rattle.world_model.specs.Run.{next_event, enabled_steps, living}
-use Rattle.world_model.specs.Shown.{Identity, shown_by, request_in, deadlock_of}
+use Rattle.world_model.specs.Run.{next_event, enabled_steps}
+use Rattle.world_model.specs.Shown.{Identity, shown_at_rest, shown_by, request_in}
 use Rattle.tree_sleep_sets.specs.Search.{Choice}
 use Rattle.tree_sleep_sets.specs.Shown.{Signs}
 use Rattle.tree_sleep_sets.specs.System.{System}
@@ -45,10 +45,10 @@ same_step = eq_by_cmp order_of_steps
 abbrev pub choice : (a : Program) → Choice (explored a)
 choice a = record { enabled = enabled_steps a; is_same = same_step }
 
--- an event shows what it shows as the last one, and a history that no step is enabled
+-- an event shows what it shows as the last one, and a history what is shown where no step is enabled
 abbrev pub signs : (a : Program) → Signs (explored a)
 signs a = record {
   Identity = Identity;
   event_shows = λ e i. IsAmong i (shown_by e.event.step e.request e.event.deed);
-  state_shows = λ h i. IsAmong i (deadlock_of (enabled_steps a h) (living h));
+  state_shows = λ h i. IsAmong i (shown_at_rest (enabled_steps a h) h);
 }

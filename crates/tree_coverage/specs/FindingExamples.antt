@@ -96,7 +96,7 @@ abbrev pub NoStepIsClean : Type 0
 NoStepIsClean = HasFindings plain two_wait 0 [] []
 
 abbrev pub allowing : Flags
-allowing = record { allow_deadlock = true; strict_access = false }
+allowing = record { allow_deadlock = true; strict_access = false; idle_servers = false }
 
 abbrev pub AllowedIsClean : Type 0
 AllowedIsClean = HasFindings allowing two_wait 1 [] []

@@ -1,7 +1,7 @@
 -- What is found of the errors that count, and of those that are taken as normal.
 use Rattle.std.proofs.Common.{◌≡◌, ◌↔◌, ◌⊎◌, inl, inr, Bool, true, false, ◌&&◌, not, List, [], ◌∷◌, filter, cond, refl, sym, ap, ◌∙◌}
 use Rattle.world_model.specs.Names.{IsAmong}
-use Rattle.world_model.specs.Shown.{Identity, End, Deadlock, Runaway, RefusedCall, Flags, is_error}
+use Rattle.world_model.specs.Shown.{Identity, End, Deadlock, Runaway, RefusedCall, Unread, Flags, is_error}
 use Rattle.tree_coverage.specs.Findings.{Finding, IsFound}
 use Rattle.tree_coverage.proofs.Lists.{both_first, both_second, both_true, kept_passes, passes_kept}
 use Rattle.tree_schedules.specs.Schedules.{IsEverShownBy, IsShownBy}
@@ -56,6 +56,7 @@ never (End p reason) = refl
 never (Deadlock ps) = refl
 never (Runaway p) = refl
 never (RefusedCall p request kind arguments rule told) = refl
+never (Unread ps) = refl
 
 first_counts : (b : Bool) → b ≡ false → (f : Finding) (fs rest : List Finding) → rest ≡ fs → cond (not b) (f ∷ rest) rest ≡ f ∷ fs
 first_counts false e f fs rest is = ap (λ r. f ∷ r) is

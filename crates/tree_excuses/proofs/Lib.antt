@@ -1,3 +1,4 @@
+pub mod Idle
 pub mod Judged
 pub mod Matching
 pub mod PatternLaws

@@ -3,8 +3,7 @@ use Rattle.std.specs.List.{filter, list_any}
 use Rattle.std.specs.Prelude.{Bool, false, ◌&&◌, ◌||◌, not, List, [], map}
 use Rattle.term_core.specs.Meaning.{Meaning}
 use Rattle.term_core.specs.Term.{meaning_of}
-use Rattle.world_model.specs.Names.{Pid, same_pid}
-use Rattle.world_model.specs.Shown.{Identity, End, Deadlock, Runaway, RefusedCall, Flags, is_error}
+use Rattle.world_model.specs.Shown.{Identity, End, Deadlock, Runaway, RefusedCall, Unread, Flags, has_first, is_error}
 use Rattle.tree_coverage.specs.Covers.{is_empty}
 use Rattle.tree_coverage.specs.Findings.{Finding}
 use Rattle.tree_excuses.specs.declared.excuses.Excuses as declared
@@ -31,16 +30,13 @@ are_any x = x.main_deadlock || not (is_empty x.normal)
 
 -- ---- what is excused
 
--- the first process is among these
-abbrev pub has_first : List Pid → Bool
-has_first = list_any (λ p. same_pid p [])
-
 -- an end with a reason that one of the patterns matches; a deadlock without the first process, where only those with it count; and nothing else
 abbrev pub is_excused : Excuses → Identity → Bool
 is_excused x (End p reason) = list_any (λ it. matches it reason) x.normal
 is_excused x (Deadlock ps) = x.main_deadlock && not (has_first ps)
 is_excused x (Runaway p) = false
 is_excused x (RefusedCall p request kind arguments rule told) = false
+is_excused x (Unread ps) = false
 
 -- an error that is not excused counts as one
 abbrev pub counts : Flags → Excuses → Identity → Bool

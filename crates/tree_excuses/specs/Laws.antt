@@ -1,9 +1,13 @@
 -- What the laws of excuses say.
-use Rattle.std.specs.Prelude.{◌≡◌, ◌↔◌, ◌⊎◌, ℕ, true, false, List, []}
+use Rattle.std.specs.List.{list_any}
+use Rattle.std.specs.Prelude.{◌≡◌, ◌↔◌, ◌⊎◌, ◌||◌, not, ℕ, true, false, List, []}
 use Rattle.term_core.specs.Meaning.{Meaning}
+use Rattle.world_model.specs.Events.{History}
 use Rattle.world_model.specs.Names.{IsAmong, same_term}
 use Rattle.world_model.specs.Requests.{Program}
-use Rattle.world_model.specs.Shown.{Identity, Flags, is_error}
+use Rattle.world_model.specs.Run.{living}
+use Rattle.world_model.specs.Shown.{Identity, Flags, has_first, is_error, shown_at_rest, with_messages}
+use Rattle.tree_coverage.specs.Covers.{is_empty}
 use Rattle.tree_coverage.specs.Findings.{Finding, IsFound}
 use Rattle.tree_schedules.specs.Schedules.{IsEverShownBy, IsShownBy}
 use Rattle.tree_schedules.specs.declared.delivery.Delivery.{Delivery}
@@ -34,6 +38,13 @@ NothingIsLost = (x : Excuses) (f : Finding) (fs : List Finding) → IsAmong f fs
 -- without excuses all count, and none is taken as normal
 abbrev pub NoExcusesChangeNothing : Type 0
 NoExcusesChangeNothing = (fs : List Finding) → (counted no_excuses fs ≡ fs) × (taken no_excuses fs ≡ [])
+
+-- ---- idle servers
+
+-- where servers have to be idle, and no step is enabled, an error counts exactly where the first process lives then, or one that has messages
+abbrev pub RestIsJudged : Type 0
+RestIsJudged = (flags : Flags) (x : Excuses) (h : History) → flags.allow_deadlock ≡ false → flags.idle_servers ≡ true → x.main_deadlock ≡ true
+    → list_any (counts flags x) (shown_at_rest [] h) ≡ (has_first (living h) || not (is_empty (with_messages h (living h))))
 
 -- ---- patterns
 

@@ -3,15 +3,15 @@ ghost use Rattle.std.specs.Prelude.{◌≡◌, length, map};
 ghost use Rattle.std.specs.List.{list_any};
 ghost use Rattle.world_identities.specs.Identities.{flags_in, identity_in};
 ghost use Rattle.term_core.specs.Term.{meaning_of};
-ghost use Rattle.tree_excuses.specs.Excuses.{are_any, counts, excuses_in, has_first, is_excused, no_excuses, those_that};
+ghost use Rattle.tree_excuses.specs.Excuses.{are_any, counts, excuses_in, is_excused, no_excuses, those_that};
 ghost use Rattle.tree_excuses.specs.Patterns.{matches};
 
 use crate::patterns::matches;
 use crate::standing::Standing;
 use std::alloc::Global;
-use term_core::{Pid, Term};
+use term_core::Term;
 use tree_findings::FindingList;
-use world_identities::{Flags, Identity};
+use world_identities::{Flags, Identity, has_first};
 
 /// Which errors are excused. An error that is excused is taken as normal: it is listed, and does not count.
 pub struct Excuses {
@@ -29,18 +29,6 @@ impl Drop for Excuses {
             normal: _,
         } = self;
     }
-}
-
-// Whether the first process is among these.
-fn has_first(pids: &[Pid]) -> bool
-    ensures { result ≡ has_first pids.now }
-{
-    for pid in pids {
-        if pid.numbers().is_empty() {
-            return true;
-        }
-    }
-    false
 }
 
 // Whether one of these patterns matches a reason.
@@ -75,7 +63,7 @@ impl Excuses {
 
     /// Whether what a schedule shows is excused: an end with a reason that one of the patterns matches and, where only
     /// deadlocks of the first process count, one in which it does not wait. A process that makes too many applications
-    /// without a request, and a call that is refused, never are. It takes no memory.
+    /// without a request, a call that is refused, and what is unread never are. It takes no memory.
     pub fn excuses(&self, identity: &Identity) -> bool
         ensures { result ≡ is_excused (excuses_in self.now) (identity_in identity.now) }
     {
@@ -84,6 +72,7 @@ impl Excuses {
             Identity::Deadlock(pids) => self.main_deadlock && !has_first(pids.as_slice()),
             Identity::Runaway(_) => false,
             Identity::Refusal { .. } => false,
+            Identity::Unread(_) => false,
         }
     }
 

@@ -1,5 +1,5 @@
 // The laws of excuses.
-ghost use Rattle.tree_excuses.specs.Laws.{AnyMatchesAll, EachMatchesItself, JudgedAreExact, JudgedAreWhole, NoExcusesChangeNothing, NothingIsLost, PlainMatchesItselfAlone};
+ghost use Rattle.tree_excuses.specs.Laws.{AnyMatchesAll, EachMatchesItself, JudgedAreExact, JudgedAreWhole, NoExcusesChangeNothing, NothingIsLost, PlainMatchesItselfAlone, RestIsJudged};
 ghost use Rattle.tree_excuses.specs.Rows.{AtomRows, ListRows, TupleRows};
 
 /// Where the errors that are listed are exactly those that some schedule shows, of at most so many steps or of whatever
@@ -18,6 +18,12 @@ pub fn nothing_is_lost()
 /// Without excuses all errors count, and none is taken as normal.
 pub fn no_excuses_change_nothing()
     ensures { NoExcusesChangeNothing }
+{}
+
+/// Where servers have to be idle, and no step is enabled, an error counts exactly where the first process lives then, or
+/// some process has messages in its mailbox.
+pub fn idle_servers_are_judged()
+    ensures { RestIsJudged }
 {}
 
 /// `'_'` matches each term; each term matches itself; and a term in which `'_'` does not stand matches itself alone.

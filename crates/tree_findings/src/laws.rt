@@ -1,6 +1,6 @@
 // The laws of findings.
 ghost use Rattle.tree_findings.specs.Laws.{NoneShowsNothing, OneMoreIsAdded, ListsAreMerged, OrderDoesNotMatter, GroupingDoesNotMatter};
-ghost use Rattle.tree_findings.specs.MergeExamples.{ShorterIsKept, ShorterStays, BothAreKept, RefusalsAreMerged, ErrorsAreStrict, DeadlockIsAllowed};
+ghost use Rattle.tree_findings.specs.MergeExamples.{ShorterIsKept, ShorterStays, BothAreKept, RefusalsAreMerged, ErrorsAreStrict, DeadlockIsAllowed, UnreadComesLast, UnreadIsLeftOut};
 
 /// What schedules show depends neither on their order nor on how they are split: without schedules nothing is found,
 /// one schedule more adds what it shows, the findings of two lists of schedules are merged, in whatever order the
@@ -22,4 +22,6 @@ pub fn findings_are_put_together()
     ensures refusals { RefusalsAreMerged }
     ensures strict { ErrorsAreStrict }
     ensures allowed { DeadlockIsAllowed }
+    ensures unread { UnreadComesLast }
+    ensures left_out { UnreadIsLeftOut }
 {}

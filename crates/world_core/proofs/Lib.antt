@@ -4,3 +4,4 @@ pub mod Worlds
 pub mod Runs
 pub mod Turns
 mod Deadlocks
+mod Unread

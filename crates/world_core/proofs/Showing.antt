@@ -1,8 +1,9 @@
 -- What a world shows is determined by its records, its last event and its enabled steps.
-use Rattle.std.proofs.Common.{◌≡◌, ◌∙◌, ◌++◌, ◌+◌, if◌then◌else◌, ℕ, List, [], ◌∷◌, Option, Some, None, refl, sym, ap, option_map, map, Bor, length, ◌==◌, false, true}
-use Rattle.std.proofs.lemmas.Bool.{false≢true}
+use Rattle.std.proofs.Common.{◌≡◌, ◌∙◌, ◌++◌, ◌+◌, if◌then◌else◌, ℕ, Bool, List, [], ◌∷◌, Option, Some, None, refl, sym, ap, arith, option_map, is_some, Bor, length, ◌==◌, false, true, append_assoc}
+use Rattle.std.proofs.lemmas.Bool.{eqb-true, false≢true}
+use Rattle.std.proofs.lemmas.Option.{none-some}
 use Rattle.std.specs.BTreeMap.{is_at}
-use Rattle.std.specs.List.{list_any}
+use Rattle.std.specs.List.{filter, list_any, slice_get}
 use Rattle.std.specs.List.Sorted.{IsStrictlySortedBy}
 use Rattle.std.specs.Prelude.{◌&&◌, option_copied}
 use Rattle.term_core.specs.Order.{order_of_lists}
@@ -12,21 +13,23 @@ use Rattle.term_core.specs.Meaning.{Meaning}
 use Rattle.core_calls.specs.declared.call.CallKind.{CallKind}
 use Rattle.core_tree.specs.Syntax.{ModuleTree}
 use Rattle.proc_machines.specs.Processes.{lives_in, turns_in}
+use Rattle.proc_mailboxes.specs.Mailboxes.{Mailboxes, messages_in}
 use Rattle.world_model.specs.Asking.{program_of}
 use Rattle.world_model.specs.Events as events
 use Rattle.world_model.specs.Events.{event, History, Refusal, Served, Refused, EndedItself, Received, TimedOut, Ended, RanAway, Delivered}
+use Rattle.world_model.specs.Mailboxes.{mailbox_in}
 use Rattle.world_model.specs.Names.{Pid}
 use Rattle.world_model.specs.Run.{latest, living, next_event}
-use Rattle.world_model.specs.Shown.{deadlock_of, request_in, shown_by, shown_last}
+use Rattle.world_model.specs.Shown.{Identity, are_some, deadlock_of, has_first, request_in, shown_at_rest, shown_by, shown_last, unread_by, unread_of, with_messages}
 use Rattle.world_model.specs.World.{contents, turns}
-use Rattle.world_records.specs.Records.{Agrees, processes_of}
+use Rattle.world_records.specs.Records.{Agrees, mailboxes_of, processes_of}
 use Rattle.world_records.specs.declared.records.Records.{Records}
 use Rattle.world_footprints.specs.Deeds.{deed_in, event_in}
 use Rattle.world_footprints.specs.Footprints.{IsPlan}
 use Rattle.world_footprints.specs.declared.deed.Deed.{Deed}
 use Rattle.world_footprints.specs.declared.deed.Event.{Event}
 use Rattle.world_footprints.specs.declared.plan.Plan.{Plan}
-use Rattle.world_core.specs.inside.Showing.{last_shown, next_request, request_by}
+use Rattle.world_core.specs.inside.Showing.{has_unread, last_shown, next_request, request_by}
 use Rattle.world_model.proofs.Lives.{turns_told}
 use Rattle.world_model.proofs.Meeting.{pid_itself}
 use Rattle.world_core.proofs.Living.{living_are}
@@ -53,25 +56,60 @@ pub told_copied : (last : Option (Bor Event)) → option_map event_in (option_co
 told_copied None = refl
 told_copied (Some event) = refl
 
-pub not_empty : (steps : List Step) → false ≡ (length steps == 0) → steps ≡ [] → ⊥
-not_empty steps some none = false≢true (some ∙ ap (λ xs. length xs == 0) none)
+-- what the last event shows, by the records and as they keep it
+pub last_shows : (m : ModuleTree) (h : History) (records : Records) (last : Option (Bor Event)) → Agrees m records (contents h) → option_map (λ (event : Bor Event). event_in event.now) last ≡ latest (Some h)
+    → last_shown (turns_in (processes_of records)) (option_copied last) ≡ shown_last h
+last_shows m h records last told is = last_is h (turns_in (processes_of records)) (option_copied last) (λ p. told.processes_are.turns p) (told_copied last ∙ is)
 
-same_dead : (enabled : List Step) (ps qs : List Pid) → (enabled ≡ [] → ps ≡ qs) → deadlock_of enabled ps ≡ deadlock_of enabled qs
-same_dead [] ps qs same = ap (deadlock_of []) (same refl)
-same_dead (step ∷ steps) ps qs same = refl
+-- ---- where no step is enabled
 
-pub shows_all : (m : ModuleTree) (h : History) (records : Records) (last : Option (Bor Event)) (enabled : List Step) (ps : List Pid)
-    → Agrees m records (contents h) → option_map (λ (event : Bor Event). event_in event.now) last ≡ latest (Some h)
-    → (enabled ≡ [] → IsStrictlySortedBy order_of_lists ps) → ((p : Pid) → list_any (is_at (order_of_lists p)) ps ≡ lives_in (processes_of records) p)
-    → last_shown (turns_in (processes_of records)) (option_copied last) ++ deadlock_of enabled ps ≡ shown_last h ++ deadlock_of enabled (living h)
-shows_all m h records last enabled ps told is sorted lives = λ i.
-    last_is h (turns_in (processes_of records)) (option_copied last) (λ p. told.processes_are.turns p) (told_copied last ∙ is) i
-    ++ same_dead enabled ps (living h) (λ none. living_are h ps (sorted none) (λ p. lives p ∙ told.processes_are.alive p)) i
+-- nothing is shown where one is
+pub goes_on : (steps : List Step) (h : History) → false ≡ (length steps == 0) → shown_at_rest steps h ≡ []
+goes_on [] h some = absurd (false≢true some)
+goes_on (step ∷ steps) h some = refl
 
--- where no step is enabled, all that live are dead-locked
-pub all_dead : (m : ModuleTree) (h : History) (records : Records) (ps : List Pid) → Agrees m records (contents h) → IsStrictlySortedBy order_of_lists ps → ((p : Pid) → list_any (is_at (order_of_lists p)) ps ≡ lives_in (processes_of records) p)
-    → deadlock_of [] ps ≡ deadlock_of [] (living h)
-all_dead m h records ps told sorted lives = ap (deadlock_of []) (living_are h ps sorted (λ p. lives p ∙ told.processes_are.alive p))
+no_length : (steps : List Step) → length steps ≡ 0 → steps ≡ []
+no_length [] none = refl
+no_length (step ∷ steps) none = absurd (omega arith)
+
+pub no_step : (steps : List Step) → true ≡ (length steps == 0) → steps ≡ []
+no_step steps none = no_length steps (eqb-true (length steps) 0 (sym none))
+
+-- a mailbox has messages where it has a first one
+pub has_one : {A : Type 0} (o : Option A) (f : A → Meaning) (messages : List Meaning) → option_map f o ≡ slice_get messages 0 → is_some o ≡ are_some messages
+has_one None f [] is = refl
+has_one None f (m ∷ ms) is = absurd (none-some m is)
+has_one (Some x) f [] is = absurd (none-some (f x) (sym is))
+has_one (Some x) f (m ∷ ms) is = refl
+
+-- nothing is unread where the first process lives, and else what is in mailboxes
+pub first_lives : (ps unread : List Pid) (b : Bool) → b ≡ has_first ps → b ≡ true → unread_of ps unread ≡ []
+first_lives ps unread b is on = ap (λ (c : Bool). if c then [] else unread_by unread) (sym is ∙ on)
+
+pub first_is_gone : (ps unread : List Pid) (b : Bool) → b ≡ has_first ps → b ≡ false → unread_of ps unread ≡ unread_by unread
+first_is_gone ps unread b is off = ap (λ (c : Bool). if c then [] else unread_by unread) (sym is ∙ off)
+
+-- processes that are listed live after the history, where they are those of the records
+pub all_live : (m : ModuleTree) (h : History) (records : Records) (keys ps : List Pid) → Agrees m records (contents h) → ps ≡ keys → IsStrictlySortedBy order_of_lists keys → ((p : Pid) → list_any (is_at (order_of_lists p)) keys ≡ lives_in (processes_of records) p)
+    → ps ≡ living h
+all_live m h records keys ps told listed sorted lives = listed ∙ living_are h keys sorted (λ p. lives p ∙ told.processes_are.alive p)
+
+-- those that have messages in the mailboxes of the records
+messages_same : (m : ModuleTree) (h : History) (records : Records) (mailboxes : Mailboxes) (ps : List Pid) → Agrees m records (contents h) → mailboxes ≡ mailboxes_of records → filter (has_unread mailboxes) ps ≡ with_messages h ps
+messages_same m h records mailboxes ps told is =
+    let same : (p : Pid) → messages_in mailboxes p ≡ mailbox_in (contents h) p = λ p. ap (λ (kept : Mailboxes). messages_in kept p) is ∙ (told.mailboxes_are p).left in
+    (λ i. filter (λ p. are_some (same p i)) ps)
+
+-- what is put after others is shown where no step is enabled: the deadlock of these processes, and what they leave unread
+pub put_at_rest : (m : ModuleTree) (h : History) (records : Records) (mailboxes : Mailboxes) (ps : List Pid) (old one all dead left : List Identity) → Agrees m records (contents h) → mailboxes ≡ mailboxes_of records → ps ≡ living h
+    → one ≡ old ++ dead → all ≡ one ++ left → dead ≡ deadlock_of ps → left ≡ unread_of ps (filter (has_unread mailboxes) ps) → all ≡ old ++ shown_at_rest [] h
+put_at_rest m h records mailboxes ps old one all dead left told is lives first second dead_is left_is =
+    second
+    ∙ ap (λ (xs : List Identity). xs ++ left) first
+    ∙ append_assoc old dead left
+    ∙ (λ i. old ++ (dead_is i ++ left_is i))
+    ∙ ap (λ (qs : List Pid). old ++ (deadlock_of qs ++ unread_of qs (filter (has_unread mailboxes) qs))) lives
+    ∙ ap (λ (us : List Pid). old ++ (deadlock_of (living h) ++ unread_of (living h) us)) (messages_same m h records mailboxes (living h) told is)
 
 -- ---- what a plan shows
 

@@ -1,13 +1,13 @@
 // The laws of worlds: what follows from the definitions of their steps.
 ghost use Rattle.std.specs.List.Sorted.{IsStrictlySortedBy};
-ghost use Rattle.std.specs.Prelude.{◌≡◌, ◌↔◌, List, Some, None, [], true};
+ghost use Rattle.std.specs.Prelude.{◌≡◌, ◌↔◌, List, Some, None, [], true, false};
 ghost use Rattle.term_core.specs.Order.{order_of_lists};
 ghost use Rattle.world_core.specs.Waiting.{Waits};
 ghost use Rattle.world_model.specs.Events.{Event, History};
 ghost use Rattle.world_model.specs.Names.{Pid, IsAmong};
 ghost use Rattle.world_model.specs.Requests.{Program};
 ghost use Rattle.world_model.specs.Run.{enabled_steps, living, next_event};
-ghost use Rattle.world_model.specs.Shown.{Deadlock, Shows};
+ghost use Rattle.world_model.specs.Shown.{Deadlock, Shows, Unread, with_messages};
 ghost use Rattle.world_model.specs.World.{alive};
 ghost use Rattle.term_core.specs.declared.step.Step.TheVariants.{Turn};
 
@@ -26,4 +26,10 @@ pub fn living_are_listed()
 /// A deadlock is shown where no step is enabled and a process lives, and nowhere else; and it names all that live.
 pub fn deadlocks_are_of_the_living()
     ensures { (a : Program) (h : History) (ps : List Pid) → Shows a h (Deadlock ps) ↔ ((enabled_steps a h ≡ []) × ((living h ≡ ps) × (ps ≡ [] → ⊥))) }
+{}
+
+/// What is unread is shown where no step is enabled and the first process has ended, and nowhere else; and it names all
+/// that live and have messages in their mailboxes, where there are any.
+pub fn unread_messages_are_of_the_living()
+    ensures { (a : Program) (h : History) (ps : List Pid) → Shows a h (Unread ps) ↔ ((enabled_steps a h ≡ []) × ((alive h [] ≡ false) × ((with_messages h (living h) ≡ ps) × (ps ≡ [] → ⊥)))) }
 {}

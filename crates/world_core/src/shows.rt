@@ -1,5 +1,5 @@
 // What a world shows: what its last event is, and whether no step is enabled.
-ghost use Rattle.std.specs.Prelude.{◌≡◌, ◌+◌, ◌++◌, [], None, IfOk, OnOk, map, option_copied, option_map};
+ghost use Rattle.std.specs.Prelude.{◌≡◌, ◌+◌, ◌++◌, [], None, IfOk, OnOk, filter, map, option_copied, option_map};
 ghost use Rattle.core_tree.specs.Syntax.{ModuleTree};
 ghost use Rattle.world_identities.specs.Identities.{identity_in};
 ghost use Rattle.proc_links.specs.Effects.{fate_in};
@@ -11,22 +11,23 @@ ghost use Rattle.term_core.specs.declared.step.Step.TheVariants.{Turn, Deliver};
 ghost use Rattle.world_planned.specs.Replies.{refusal_in};
 ghost use Rattle.world_footprints.specs.Footprints.{IsPlan};
 ghost use Rattle.world_core.specs.Planned.{WillShow};
-ghost use Rattle.world_core.specs.inside.Showing.{AreShownBy, told_by, last_shown, next_request};
+ghost use Rattle.world_core.specs.inside.Showing.{AreShownBy, has_unread, told_by, last_shown, next_request};
 ghost use Rattle.world_model.specs.Asking.{program_of};
 ghost use Rattle.world_model.specs.Events.{History};
-ghost use Rattle.world_model.specs.Run.{living, next_event};
-ghost use Rattle.world_model.specs.Shown.{deadlock_of, shown_by, shown_by_fate, shown_by_refusal, unless_normal};
+ghost use Rattle.world_model.specs.Run.{next_event};
+ghost use Rattle.world_model.specs.Shown.{deadlock_of, shown_at_rest, shown_by, shown_by_fate, shown_by_refusal, unless_normal, unread_by, unread_of};
 ghost use Rattle.world_model.specs.World.{contents};
 ghost use Rattle.world_records.specs.Records.{Agrees, processes_of};
 ghost use Rattle.world_footprints.specs.Deeds.{deed_in, event_in};
 
 use core_tree::CallKind;
 use proc_links::Effect;
+use proc_mailboxes::Mailboxes;
 use std::alloc::{AllocError, Global};
 use std::collections::BTreeSet;
 use std::sync::Arc;
 use term_core::{Pid, Step, Term, Terms};
-use world_identities::Identity;
+use world_identities::{Identity, has_first};
 use world_plans::{Deed, Event, Plan, Refusal, copy_owner};
 use world_records::Records;
 
@@ -176,23 +177,61 @@ fn listed(alloc: Global, pids: &BTreeSet<Pid>) -> Result<Vec<Pid>, AllocError>
     Ok(listed)
 }
 
-// The deadlock of these processes, where there are any and no step is enabled.
-fn deadlock(
-    alloc: Global,
-    enabled: &[Step],
-    living: &BTreeSet<Pid>,
-) -> Result<Option<Identity>, AllocError>
-    ensures dead { IfOk result (λ shown. told_by shown ≡ deadlock_of enabled.now living.now.keys) }
-    ensures in_order { IfOk result (λ _. enabled.now ≡ [] → IsStrictlySortedBy order_of_lists living.now.keys) }
+// The deadlock of these processes, where there are any.
+fn deadlock(pids: Vec<Pid>) -> Option<Identity>
+    ensures { told_by result ≡ deadlock_of pids.items }
 {
-    if !enabled.is_empty() {
-        return Ok(None);
-    }
-    let pids = listed(alloc, living)?;
     if pids.is_empty() {
+        return None;
+    }
+    Some(Identity::Deadlock(pids))
+}
+
+// Whether a process has messages in its mailbox.
+fn has_messages(mailboxes: &Mailboxes, pid: &Pid) -> bool
+    ensures { result ≡ has_unread mailboxes.now pid.now }
+{
+    match mailboxes.of(pid) {
+        Some(mailbox) => mailbox.get(0).is_some(),
+        None => false,
+    }
+}
+
+// Those of these processes that have messages in their mailboxes, in their order.
+fn with_messages(alloc: Global, mailboxes: &Mailboxes, pids: &[Pid]) -> Result<Vec<Pid>, AllocError>
+    ensures { IfOk result (λ unread. unread.items ≡ filter (has_unread mailboxes.now) pids.now) }
+{
+    let mut unread = Vec::new(alloc);
+    for pid in pids {
+        if has_messages(mailboxes, pid) {
+            unread.push(pid.copy()?)?;
+        }
+    }
+    Ok(unread)
+}
+
+// That these processes have messages which they do not take, where there are any.
+fn unread_by(pids: Vec<Pid>) -> Option<Identity>
+    ensures { told_by result ≡ unread_by pids.items }
+{
+    if pids.is_empty() {
+        return None;
+    }
+    Some(Identity::Unread(pids))
+}
+
+// What processes leave unread where just these live: nothing where the first process is among them.
+fn unread(
+    alloc: Global,
+    mailboxes: &Mailboxes,
+    pids: &[Pid],
+) -> Result<Option<Identity>, AllocError>
+    ensures { IfOk result (λ left. told_by left ≡ unread_of pids.now (filter (has_unread mailboxes.now) pids.now)) }
+{
+    if has_first(pids) {
         return Ok(None);
     }
-    Ok(Some(Identity::Deadlock(pids)))
+    Ok(unread_by(with_messages(alloc, mailboxes, pids)?))
 }
 
 // Puts an identity after others, if there is one.
@@ -207,8 +246,8 @@ fn push_if_any(shown: &mut Vec<Identity>, identity: Option<Identity>) -> Result<
 
 /// What a world with these records, this last event and these enabled steps shows: the end of a process with another
 /// reason than `normal`, a process that made too many applications without a request, or a refused call of a table,
-/// whichever the last event is; and then the deadlock of those that live, where no step is enabled. `AllocError` if
-/// there is no memory for it.
+/// whichever the last event is; and then, where no step is enabled, the deadlock of those that live, and what they leave
+/// unread, where the first process is not among them. `AllocError` if there is no memory for it.
 pub(crate) fn shown_by_world(
     records: &Records<'_>,
     alloc: Global,
@@ -217,25 +256,28 @@ pub(crate) fn shown_by_world(
 ) -> Result<Vec<Identity>, AllocError>
     ensures { IfOk result (λ found. AreShownBy records.now (option_map (λ event. event_in event.now) event.entry) enabled.now (map identity_in found.items)) }
 {
-    let mut found = Vec::new(alloc);
-    push_if_any(&mut found, by_last_event(records, event)?)?;
-    push_if_any(
-        &mut found,
-        deadlock(alloc, enabled, records.processes().living())?,
-    )?;
-    Ok(found)
+    let mut shown = Vec::new(alloc);
+    push_if_any(&mut shown, by_last_event(records, event)?)?;
+    if !enabled.is_empty() {
+        return Ok(shown);
+    }
+    push_deadlock(records, alloc, &mut shown)?;
+    Ok(shown)
 }
 
-/// Puts the deadlock of all processes that live after other identities, where any lives: the caller knows of the
-/// records that no step is enabled. `AllocError` if there is no memory for it.
+/// Puts the deadlock of all processes that live after other identities, where any lives, and then what they leave unread,
+/// where the first process is not among them: the caller knows of the records that no step is enabled. `AllocError` if
+/// there is no memory for it.
 pub fn push_deadlock(
     records: &Records<'_>,
     alloc: Global,
     shown: &mut Vec<Identity>,
 ) -> Result<(), AllocError>
-    ensures { OnOk result ((m : ModuleTree) (h : History) → Agrees m records.now (contents h) → map identity_in shown.new.items ≡ map identity_in shown.old.items ++ deadlock_of [] (living h)) }
+    ensures { OnOk result ((m : ModuleTree) (h : History) → Agrees m records.now (contents h) → map identity_in shown.new.items ≡ map identity_in shown.old.items ++ shown_at_rest [] h) }
 {
-    let dead = deadlock(alloc, &[], records.processes().living())?;
-    push_if_any(shown, dead)?;
+    let pids = listed(alloc, records.processes().living())?;
+    let left = unread(alloc, records.mailboxes(), pids.as_slice())?;
+    push_if_any(shown, deadlock(pids))?;
+    push_if_any(shown, left)?;
     Ok(())
 }

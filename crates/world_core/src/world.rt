@@ -5,8 +5,8 @@ ghost use Rattle.term_core.specs.declared.step.Step.{Step};
 ghost use Rattle.world_core.specs.Advanced.{Advances};
 ghost use Rattle.world_core.specs.Seen.{new_world, program_in};
 ghost use Rattle.world_core.specs.declared.fault.WorldFault.TheVariants.{NotEnabled, Memory};
-ghost use Rattle.world_model.specs.Run.{enabled_steps, extended, latest, living, next_event, run, schedule_of};
-ghost use Rattle.world_model.specs.Shown.{deadlock_of, shown, shown_last};
+ghost use Rattle.world_model.specs.Run.{enabled_steps, extended, latest, next_event, run, schedule_of};
+ghost use Rattle.world_model.specs.Shown.{shown, shown_at_rest, shown_last};
 ghost use Rattle.world_model.specs.StepLaws.{AreInOrder};
 ghost use Rattle.world_model.specs.World.{alive, contents};
 ghost use Rattle.world_records.specs.Records.{Agrees};
@@ -237,8 +237,8 @@ impl<'m> World<'m> {
 
     /// What the world shows, its errors and its refusal: by its last event the end of a process with another reason
     /// than `normal`, a process that made too many applications without a request, or a refused call of a table; and
-    /// the deadlock of those that live, where no step is enabled (`Identity::is_error` and `Identity::is_refusal` say
-    /// which is which).
+    /// where no step is enabled the deadlock of those that live, and what they leave unread, where the first process is
+    /// not among them (`Identity::is_error` and `Identity::is_refusal` say which is which).
     ///
     /// # Errors
     ///
@@ -254,13 +254,13 @@ impl<'m> World<'m> {
     }
 
     /// The same for a caller that has the enabled steps, as `enabled` gives them. With other steps, it answers a
-    /// deadlock exactly where the list is empty and some process lives.
+    /// deadlock, and what is unread, exactly where the list is empty and some process lives.
     ///
     /// # Errors
     ///
     /// `Memory` where memory ran out, now or in an earlier step.
     pub fn errors_among(&self, alloc: Global, enabled: &[Step]) -> Result<Vec<Identity>, WorldFault>
-        ensures shown { IfOk result (λ found. map identity_in found.items ≡ shown_last self.now.history ++ deadlock_of enabled.now (living self.now.history)) }
+        ensures shown { IfOk result (λ found. map identity_in found.items ≡ shown_last self.now.history ++ shown_at_rest enabled.now self.now.history) }
         ensures memory { IfErr result (λ fault. fault ≡ Memory) }
         ensures spent { self.now.spent ≡ true → IsErr result }
     {

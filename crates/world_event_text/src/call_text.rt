@@ -100,8 +100,8 @@ fn write_told_owner<W: Sink>(sink: &mut W, pid: &Pid) -> Result<(), WriteFault>
     write_pid(pid, sink)
 }
 
-// The name of a rule.
-fn rule_name(rule: Rule) -> &'static str
+/// The name of a rule. It takes no memory.
+pub fn rule_name(rule: Rule) -> &'static str
     ensures { result.now ≡ name_of_rule rule }
 {
     match rule {

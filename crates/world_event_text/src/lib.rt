@@ -4,5 +4,5 @@
 pub mod call_text;
 pub mod event_text;
 
-pub use call_text::{write_broken_rule, write_call};
+pub use call_text::{rule_name, write_broken_rule, write_call};
 pub use event_text::{write_end, write_event};

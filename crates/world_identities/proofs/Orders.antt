@@ -11,7 +11,7 @@ use Rattle.core_calls.specs.CallCodes.{number_of_call}
 use Rattle.core_calls.specs.Calls.{signature}
 use Rattle.core_calls.specs.declared.call.CallKind.{CallKind}
 use Rattle.world_model.specs.Names.{Pid}
-use Rattle.world_model.specs.Shown.{Identity, End, Deadlock, Runaway, RefusedCall}
+use Rattle.world_model.specs.Shown.{Identity, End, Deadlock, Runaway, RefusedCall, Unread}
 use Rattle.world_model.specs.declared.rule.Rule.{Rule}
 use Rattle.world_identities.specs.Order.{number_of_rule, order_of_processes, order_of_identities}
 use Rattle.world_identities.specs.inside.OrderLaws.{identities_total, same_identity}
@@ -49,6 +49,9 @@ order_of_ends p q x y = then_both (order_of_lists p q) (order_of_terms x y)
 
 pub order_of_deadlocks : (ps qs : List Pid) → order_of_processes ps qs ≡ order_of_identities (Deadlock ps) (Deadlock qs)
 order_of_deadlocks ps qs = sym (then_Equal (order_of_processes ps qs))
+
+pub order_of_unread : (ps qs : List Pid) → order_of_processes ps qs ≡ order_of_identities (Unread ps) (Unread qs)
+order_of_unread ps qs = sym (then_Equal (order_of_processes ps qs))
 
 pub order_of_runaways : (p q : Pid) → order_of_lists p q ≡ order_of_identities (Runaway p) (Runaway q)
 order_of_runaways p q = then_last (order_of_lists p q)

@@ -1,4 +1,4 @@
--- The order of identities: ends, deadlocks, runaways and refused calls; within a kind by the fields as they are written.
+-- The order of identities: ends, deadlocks, runaways, refused calls and unread messages; within a kind by the fields as they are written.
 use Rattle.std.specs.Cmp.Lexicographic.{slice_cmp}
 use Rattle.std.specs.Ordering.{nat_cmp, on, then_cmp}
 use Rattle.std.specs.Prelude.{ℕ, List, [], ◌∷◌, option_to_list}
@@ -8,7 +8,7 @@ use Rattle.term_core.specs.Order.{order_of_lists, order_of_items}
 use Rattle.core_calls.specs.CallCodes.{number_of_call}
 use Rattle.core_calls.specs.Calls.{signature}
 use Rattle.world_model.specs.Names.{Pid}
-use Rattle.world_model.specs.Shown.{Identity, End, Deadlock, Runaway, RefusedCall}
+use Rattle.world_model.specs.Shown.{Identity, End, Deadlock, Runaway, RefusedCall, Unread}
 use Rattle.world_model.specs.declared.rule.Rule.{Rule}
 use Rattle.world_model.specs.declared.rule.Rule.TheVariants.{BadTable, NoTable, PrivateRead, PrivateWrite, ProtectedWrite, NotOwner, BadName, BadOption, NameTaken, NotObject, ShortObject, BadPosition, NoKey, NotInteger, BagRefused, DeadTarget, OwnTarget, BadItem, CounterRange}
 
@@ -41,12 +41,14 @@ kind_of (End p reason) = 1
 kind_of (Deadlock ps) = 2
 kind_of (Runaway p) = 3
 kind_of (RefusedCall p request call arguments rule told) = 4
+kind_of (Unread ps) = 5
 
 abbrev pub processes_of : Identity → List Pid
 processes_of (End p reason) = p ∷ []
 processes_of (Deadlock ps) = ps
 processes_of (Runaway p) = p ∷ []
 processes_of (RefusedCall p request call arguments rule told) = p ∷ []
+processes_of (Unread ps) = ps
 
 -- the reason of an end, and the arguments of a call
 abbrev pub terms_of : Identity → List Meaning

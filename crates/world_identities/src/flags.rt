@@ -8,4 +8,7 @@ pub struct Flags {
     pub allow_deadlock: bool,
     /// Whether a call that is refused by a rule about who may call is an error: the rules 3 to 6.
     pub strict_access: bool,
+    /// Whether servers have to be idle where the first process has ended: whether messages that they do not take are an
+    /// error then.
+    pub idle_servers: bool,
 }

@@ -1,6 +1,6 @@
 // What a schedule shows.
 ghost use Rattle.std.specs.Prelude.{◌≡◌, IfOk};
-ghost use Rattle.world_model.specs.Shown.{is_error, is_refusal, is_of_access};
+ghost use Rattle.world_model.specs.Shown.{has_first, is_error, is_refusal, is_of_access};
 ghost use Rattle.world_identities.specs.Identities.{identity_in, flags_in};
 
 use crate::flags::Flags;
@@ -33,6 +33,21 @@ pub enum Identity {
         rule: Rule,
         owner: Option<Pid>,
     },
+    /// No step is enabled, the first process has ended, and these of those that live have messages in their mailboxes, in
+    /// the order of pids.
+    Unread(Vec<Pid>),
+}
+
+/// Whether the first process is among these. It takes no memory.
+pub fn has_first(pids: &[Pid]) -> bool
+    ensures { result ≡ has_first pids.now }
+{
+    for pid in pids {
+        if pid.numbers().is_empty() {
+            return true;
+        }
+    }
+    false
 }
 
 // A copy of pids, or `AllocError` if there is no memory for them.
@@ -94,12 +109,13 @@ impl Identity {
                 rule: *rule,
                 owner: copy_owner(owner)?,
             }),
+            Identity::Unread(pids) => Ok(Identity::Unread(copy_pids(alloc, pids)?)),
         }
     }
 
     /// Whether it is an error under the flags: an end, a deadlock unless it is allowed, a process that makes too many
-    /// applications without a request, and, where access is strict, a call that is refused by a rule about who may
-    /// call. It takes no memory.
+    /// applications without a request, where access is strict, a call that is refused by a rule about who may call, and
+    /// where servers have to be idle, what they leave unread. It takes no memory.
     pub fn is_error(&self, flags: Flags) -> bool
         ensures { result ≡ is_error (flags_in flags) (identity_in self.now) }
     {
@@ -108,6 +124,7 @@ impl Identity {
             Identity::Deadlock(_) => !flags.allow_deadlock,
             Identity::Runaway(_) => true,
             Identity::Refusal { rule, .. } => flags.strict_access && is_of_access(*rule),
+            Identity::Unread(_) => flags.idle_servers,
         }
     }
 

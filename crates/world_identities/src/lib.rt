@@ -6,5 +6,5 @@ pub mod identity;
 pub mod order;
 
 pub use flags::Flags;
-pub use identity::Identity;
+pub use identity::{Identity, has_first};
 pub use order::number_of_rule;

@@ -79,7 +79,10 @@ fn end_before(p: &Pid, x: &Term, other: &Identity) -> Ordering
 {
     match other {
         Identity::End { pid, reason } => order_of_ends(p, x, pid, reason),
-        Identity::Deadlock(_) | Identity::Runaway(_) | Identity::Refusal { .. } => Ordering::Less,
+        Identity::Deadlock(_)
+        | Identity::Runaway(_)
+        | Identity::Refusal { .. }
+        | Identity::Unread(_) => Ordering::Less,
     }
 }
 
@@ -90,7 +93,7 @@ fn deadlock_before(pids: &[Pid], other: &Identity) -> Ordering
     match other {
         Identity::End { .. } => Ordering::Greater,
         Identity::Deadlock(others) => pids.cmp(others.as_slice()),
-        Identity::Runaway(_) | Identity::Refusal { .. } => Ordering::Less,
+        Identity::Runaway(_) | Identity::Refusal { .. } | Identity::Unread(_) => Ordering::Less,
     }
 }
 
@@ -101,7 +104,7 @@ fn runaway_before(p: &Pid, other: &Identity) -> Ordering
     match other {
         Identity::End { .. } | Identity::Deadlock(_) => Ordering::Greater,
         Identity::Runaway(q) => p.cmp(q),
-        Identity::Refusal { .. } => Ordering::Less,
+        Identity::Refusal { .. } | Identity::Unread(_) => Ordering::Less,
     }
 }
 
@@ -132,6 +135,20 @@ fn refusal_before(
             reasons.then(number_of_call(kind).cmp(&number_of_call(*d)))
         }
         Identity::End { .. } | Identity::Deadlock(_) | Identity::Runaway(_) => Ordering::Greater,
+        Identity::Unread(_) => Ordering::Less,
+    }
+}
+
+// Which of two identities comes first, one of which is that these processes have messages which they do not take.
+fn unread_before(pids: &[Pid], other: &Identity) -> Ordering
+    ensures { result ≡ order_of_identities (shown.Unread pids.now) (identity_in other.now) }
+{
+    match other {
+        Identity::Unread(others) => pids.cmp(others.as_slice()),
+        Identity::End { .. }
+        | Identity::Deadlock(_)
+        | Identity::Runaway(_)
+        | Identity::Refusal { .. } => Ordering::Greater,
     }
 }
 
@@ -151,6 +168,7 @@ fn order_of(a: &Identity, b: &Identity) -> Ordering
             rule,
             owner,
         } => refusal_before(pid, *request, *kind, arguments, *rule, owner, b),
+        Identity::Unread(pids) => unread_before(pids.as_slice(), b),
     }
 }
 
@@ -191,9 +209,9 @@ impl Ord for Identity {
 
     ghost matches_eq = { λ a b. refl };
 
-    /// Ends, deadlocks, processes that make too many applications, and refusals; within a kind by the process or the
-    /// processes, the number of the request, the reason or the call by its name and its arguments, the number of the
-    /// rule, and the owner, none before any. It takes no memory.
+    /// Ends, deadlocks, processes that make too many applications, refusals, and what is unread; within a kind by the
+    /// process or the processes, the number of the request, the reason or the call by its name and its arguments, the
+    /// number of the rule, and the owner, none before any. It takes no memory.
     fn cmp(&self, other: &Identity) -> Ordering {
         order_of(self, other)
     }

@@ -1,5 +1,5 @@
--- Histories that leave the same have the same next events, enabled steps and deadlocks.
-use Rattle.std.proofs.Common.{◌≡◌, inl, inr, Bool, true, false, List, [], ◌∷◌, Some, None, refl, sym, ap, ◌∙◌, if◌then◌else◌, option_map, is_some}
+-- Histories that leave the same have the same next events and enabled steps, and show the same where none is enabled.
+use Rattle.std.proofs.Common.{◌≡◌, inl, inr, Bool, true, false, List, [], ◌∷◌, ◌++◌, Some, None, refl, sym, ap, ◌∙◌, if◌then◌else◌, option_map, is_some}
 use Rattle.std.specs.List.{filter, filter_map}
 use Rattle.std.specs.declared.cmp.Ordering.TheVariants.{Less, Equal}
 use Rattle.std.proofs.lemmas.Cmp.{tied_itself}
@@ -7,13 +7,14 @@ use Rattle.term_core.specs.StepOrder.{order_of_steps}
 use Rattle.term_core.specs.inside.StepOrderLaws.{steps_total}
 use Rattle.term_core.specs.declared.step.Step.{Step}
 use Rattle.term_core.specs.declared.step.Step.TheVariants.{Turn, Deliver}
-use Rattle.world_model.specs.Cells.{Alive}
+use Rattle.world_model.specs.Cells.{Alive, Contents}
 use Rattle.world_model.specs.Commuting.{LeaveTheSame}
 use Rattle.world_model.specs.Events.{Event, event, History, RanAway}
+use Rattle.world_model.specs.Mailboxes.{mailbox_in}
 use Rattle.world_model.specs.Names.{IsAmong, Pid}
 use Rattle.world_model.specs.Requests.{Program, RunsAway}
 use Rattle.world_model.specs.Run.{next_event, is_enabled, enabled_steps, possible_steps, living, turn_of}
-use Rattle.world_model.specs.Shown.{deadlock_of}
+use Rattle.world_model.specs.Shown.{are_some, deadlock_of, shown_at_rest, unread_of, with_messages}
 use Rattle.world_model.specs.StepLaws.{ComesBefore, AreInOrder}
 use Rattle.world_model.specs.Steps.{next_deed}
 use Rattle.world_model.specs.World.{contents, grown, alive}
@@ -100,5 +101,15 @@ pub same_living : (h g : History) → LeaveTheSame h g → living h ≡ living g
 same_living h g same =
     living_in h (possible_steps h) ∙ ap (filter_map turn_of) (same_enabled everyone h g same) ∙ sym (living_in g (possible_steps g))
 
-pub same_deadlock : (a : Program) (h g : History) → LeaveTheSame h g → deadlock_of (enabled_steps a h) (living h) ≡ deadlock_of (enabled_steps a g) (living g)
-same_deadlock a h g same = λ i. deadlock_of (same_enabled a h g same i) (same_living h g same i)
+-- ---- and so are those of them that have messages
+
+same_unread : (h g : History) → LeaveTheSame h g → with_messages h (living h) ≡ with_messages g (living g)
+same_unread h g same =
+    ap (λ (ps : List Pid). with_messages h ps) (same_living h g same) ∙ ap (λ (v : Contents). filter (λ p. are_some (mailbox_in v p)) (living g)) (all_cells h g same)
+
+shown_by_steps : (steps : List Step) (h g : History) → LeaveTheSame h g → shown_at_rest steps h ≡ shown_at_rest steps g
+shown_by_steps [] h g same = λ i. deadlock_of (same_living h g same i) ++ unread_of (same_living h g same i) (same_unread h g same i)
+shown_by_steps (step ∷ steps) h g same = refl
+
+pub same_at_rest : (a : Program) (h g : History) → LeaveTheSame h g → shown_at_rest (enabled_steps a h) h ≡ shown_at_rest (enabled_steps a g) g
+same_at_rest a h g same = ap (λ (steps : List Step). shown_at_rest steps h) (same_enabled a h g same) ∙ shown_by_steps (enabled_steps a g) h g same

@@ -8,7 +8,7 @@ use Rattle.core_pure_calls.specs.Answers as pure
 use Rattle.core_pure_calls.specs.Calls.{answer_of}
 use Rattle.core_pure_calls.specs.declared.outcome.Class.{Class}
 use Rattle.core_pure_calls.specs.declared.outcome.Class.TheVariants.{Error, Exit, Throw}
-use Rattle.core_semantics.specs.Applications.{definition, body_with, limit, counted, applied, room, apply_of}
+use Rattle.core_semantics.specs.Applications.{definition, body_with, allowed, counted, applied, room, apply_of}
 use Rattle.core_semantics.specs.Ask.{Entry, first_function, reason_of, request_of, ask}
 use Rattle.core_semantics.specs.Asked.{Answered, Value, Raise, Message, TimedOut}
 use Rattle.core_semantics.specs.Evaluation.{State, before, name, Outcome, Yields, Raises, Stops, Setting, then_do, handled, one, node_limit, limited, limited_error, served, caught, caught_values, class_name, trace_of, begins_with, match_reason, limited_answer, class_in, raised_again, value_or_error, within, is_true, guarded, taken, as_one, no_clause, waits_with, timed, received, called_with, evaluate, evaluate_all, choose}
@@ -265,7 +265,7 @@ module _ (n : ℕ) where
     applications_fine : (depth : ℕ) (f : Function) → GoesOn (applied depth m own f)
     applications_fine zero f vs s h k = tt
     applications_fine (suc depth) f vs s h k =
-        one_of (nat_lt s.made limit) _ _ (body_fine own mine (applied depth m own) (applications_fine depth) (definition f m.definitions) vs (counted s) h k) tt
+        one_of (nat_lt s.made (allowed m)) _ _ (body_fine own mine (applied depth m own) (applications_fine depth) (definition f m.definitions) vs (counted s) h k) tt
 
     ended_told : (class : Class) (reason : Meaning) → IsTold n reason → IsTold n (reason_of class reason)
     ended_told Error reason h = (h, (tt, tt))

@@ -1,5 +1,5 @@
 -- What the program reads of what its parser found.
-use Rattle.std.specs.Prelude.{◌≡◌, ◌⊎◌, ℕ, ◌<◌, ◌≤◌, ◌^◌, ◌&&◌, ◌||◌, Bool, true, false, List, [], length, map, codes, Option, Some, None, if◌then◌else◌, MatchBool, string_bytes, unwrap_or}
+use Rattle.std.specs.Prelude.{◌≡◌, ◌⊎◌, ℕ, ◌<◌, ◌≤◌, ◌^◌, ◌&&◌, ◌||◌, Bool, true, false, not, List, [], length, map, codes, Option, Some, None, if◌then◌else◌, MatchBool, string_bytes, unwrap_or}
 use Rattle.std.specs.List.{AllByRecursion}
 use Rattle.std.specs.Str.{bytes_eq}
 use Rattle.std.specs.Str.Parse.{IsNumeral, digits_value, without_leading_plus}
@@ -9,16 +9,17 @@ use Rattle.term_core.specs.TermText.{text_of_term}
 use Rattle.term_reader.specs.Lawful.{IsLawful}
 use Rattle.tree_excuses.specs.Excuses.{Excuses, excuses_in}
 use Rattle.tree_excuses.specs.declared.excuses.Excuses as declared
-use Rattle.program_words.specs.Words.{AreExcusesInRange, AreSmall, is_by_states, report_alone}
+use Rattle.program_words.specs.Words.{AreExcusesInRange, AreSmall, delivers_at_once, is_by_states, is_format, report_alone}
 use Rattle.world_identities.specs.declared.flags.Flags.{Flags}
 use Rattle.tree_findings.specs.declared.options.Options.{Options}
 use Rattle.tree_findings.specs.declared.options.Search.{Search}
 use Rattle.tree_findings.specs.declared.options.Search.TheVariants.{ByTree, ByStates}
 use Rattle.tree_schedules.specs.declared.delivery.Delivery.TheVariants.{AnyTime, AtOnce}
+use Rattle.search_samples.specs.declared.sample.Samples.{Samples}
 use Rattle.program_words.specs.declared.command_line.Split.{Split}
 use Rattle.program_words.specs.declared.words.Printed.{Printed}
 use Rattle.program_words.specs.declared.words.Words.{Words}
-use Rattle.program_words.specs.declared.words.Words.TheVariants.{Replay, Explore, ExploreJob, Check, Jobs, Merge}
+use Rattle.program_words.specs.declared.words.Words.TheVariants.{Replay, Explore, ExploreJob, Check, Jobs, Merge, Sample}
 
 -- the word of the schedule, where `replay` was found
 abbrev pub schedule_in : Option (Text × List Row) → Option Text
@@ -45,11 +46,27 @@ pub record ReadsFlag (text : Option Text) (flag : Bool) : Type 0 where
 pub record AreFlagsOf (rows : List Row) (flags : Flags) : Type 0 where
   pub allow_deadlock : ReadsFlag (one_of (codes "allow-deadlock") rows) flags.allow_deadlock
   pub strict_access : ReadsFlag (one_of (codes "strict-access") rows) flags.strict_access
+  pub idle_servers : ReadsFlag (one_of (codes "idle-servers") rows) flags.idle_servers
+
+-- the text of `--format`, where it is given
+abbrev pub format_in : List Row → Option Text
+format_in rows = first_of (codes "format") rows
+
+-- a format is given, and it is that of terms
+abbrev pub asks_terms : Option Text → Bool
+asks_terms None = false
+asks_terms (Some text) = bytes_eq text (codes "terms")
+
+-- a format is given that there is not
+abbrev pub is_unknown : Option Text → Bool
+is_unknown None = false
+is_unknown (Some text) = not (is_format text)
 
 -- what is printed is what the rows ask for
 pub record IsPrintedOf (rows : List Row) (printed : Printed) : Type 0 where
   pub explained : ReadsFlag (one_of (codes "explain") rows) printed.explained
   pub cover : ReadsFlag (one_of (codes "cover") rows) printed.cover
+  pub terms : printed.terms ≡ asks_terms (format_in rows)
 
 -- whether signals are delivered at once in a search
 abbrev pub is_prompt : Search → Bool
@@ -102,6 +119,27 @@ abbrev pub IsSplitOf : Text → Option (Text × List Row) → Option Split → T
 IsSplitOf command None read = read ≡ None
 IsSplitOf command (Some p) read = MatchBool (bytes_eq p.0 command) (IsSplitIn p.1 read) (read ≡ None)
 
+-- random schedules are those of the rows, and so is what is printed, which is no cover
+pub record AreSamplesRead (rows : List Row) (samples : Samples) (printed : Printed) : Type 0 where
+  pub depth : ReadsNumber (one_of (codes "depth") rows) (Some samples.depth)
+  pub runs : ReadsNumber (one_of (codes "runs") rows) (Some samples.runs)
+  pub seed : ReadsNumber (one_of (codes "seed") rows) (Some samples.seed)
+  pub at_once : ReadsFlag (one_of (codes "at-once") rows) (delivers_at_once samples.delivery)
+  pub flags : AreFlagsOf rows samples.flags
+  pub explained : ReadsFlag (one_of (codes "explain") rows) printed.explained
+  pub no_cover : printed.cover ≡ false
+  pub terms : printed.terms ≡ asks_terms (format_in rows)
+
+-- they are read where all numbers are there
+abbrev pub AreSamplesIn : List Row → Option (Samples × Printed) → Type 0
+AreSamplesIn rows None = ReadsNumber (one_of (codes "depth") rows) None ⊎ (ReadsNumber (one_of (codes "runs") rows) None ⊎ ReadsNumber (one_of (codes "seed") rows) None)
+AreSamplesIn rows (Some read) = AreSamplesRead rows read.0 read.1
+
+-- and where `sample` was found
+abbrev pub AreSamplesOf : Option (Text × List Row) → Option (Samples × Printed) → Type 0
+AreSamplesOf None read = read ≡ None
+AreSamplesOf (Some p) read = MatchBool (bytes_eq p.0 (codes "sample")) (AreSamplesIn p.1 read) (read ≡ None)
+
 -- the line of the job, where `explore` was found
 abbrev pub job_in : Option (Text × List Row) → Option Text
 job_in None = None
@@ -122,15 +160,25 @@ pub record AreTextsOf (terms : List Meaning) (texts : List Text) : Type 0 where
   pub few : length terms ≤ 16
   pub lawful : AllByRecursion IsLawful terms
 
--- what is excused is that of the rows, together with these flags
+-- what is excused is that of the rows, together with these flags: deadlocks by one of two flags, or by neither
 pub record AreExcusesIn (flags : Flags) (rows : List Row) (read : declared.Excuses) : Type 0 where
-  pub main_deadlock : ReadsFlag (one_of (codes "main-deadlock") rows) read.main_deadlock
+  pub main : Bool
+  pub idle : Bool
+  pub main_is : ReadsFlag (one_of (codes "main-deadlock") rows) main
+  pub idle_is : ReadsFlag (one_of (codes "idle-servers") rows) idle
+  pub one : (main && idle) ≡ false
+  pub main_deadlock : read.main_deadlock ≡ (main || idle)
   pub normal : texts_in rows ≡ map text_of_term (excuses_in read).normal
   pub in_range : AreExcusesInRange flags (excuses_in read)
 
 -- the rows ask for this, together with these flags
 pub record AskExcuses (flags : Flags) (rows : List Row) (excuses : Excuses) : Type 0 where
-  pub main_deadlock : one_of (codes "main-deadlock") rows ≡ Some (if excuses.main_deadlock then codes "true" else codes "false")
+  pub main : Bool
+  pub idle : Bool
+  pub main_is : one_of (codes "main-deadlock") rows ≡ Some (if main then codes "true" else codes "false")
+  pub idle_is : one_of (codes "idle-servers") rows ≡ Some (if idle then codes "true" else codes "false")
+  pub one : (main && idle) ≡ false
+  pub main_deadlock : excuses.main_deadlock ≡ (main || idle)
   pub normal : texts_in rows ≡ map text_of_term excuses.normal
   pub in_range : AreExcusesInRange flags excuses
   pub small : AreSmall excuses.normal
@@ -153,14 +201,23 @@ pub record AreJobsRead (entered : Option (Text × List Row)) (place : ℕ) : Typ
   pub read : IsSplitRead (codes "jobs") entered split excuses
   pub place_is : place ≡ split.at
 
+-- the format, if one is given of the command that was found, is one that there is
+abbrev pub HasKnownFormat : Option (Text × List Row) → Type 0
+HasKnownFormat entered = is_unknown (format_in (rows_in entered)) ≡ false
+
+-- the search and what is printed go together
+abbrev pub GoTogether : Search → Printed → Type 0
+GoTogether search printed = ((is_by_states search && printed.cover) ≡ false) × ((printed.terms && printed.cover) ≡ false)
+
 -- the words are read of the command that was found
 abbrev pub IsReadOf : Option (Text × List Row) → Words → Type 0
 IsReadOf entered (Replay word) = schedule_in entered ≡ Some (string_bytes word)
-IsReadOf entered (Explore options excuses printed) = AreOptionsOf entered (Some (options, printed)) × (AreExcusesIn options.flags (rows_in entered) excuses × ((job_in entered ≡ None) × ((is_by_states options.search && printed.cover) ≡ false)))
-IsReadOf entered (ExploreJob options excuses line) = AreOptionsOf entered (Some (options, report_alone)) × (AreExcusesIn options.flags (rows_in entered) excuses × ((job_in entered ≡ Some (string_bytes line)) × (is_by_states options.search ≡ false)))
+IsReadOf entered (Explore options excuses printed) = AreOptionsOf entered (Some (options, printed)) × (AreExcusesIn options.flags (rows_in entered) excuses × (HasKnownFormat entered × ((job_in entered ≡ None) × GoTogether options.search printed)))
+IsReadOf entered (ExploreJob options excuses line) = AreOptionsOf entered (Some (options, report_alone)) × (AreExcusesIn options.flags (rows_in entered) excuses × (HasKnownFormat entered × ((job_in entered ≡ Some (string_bytes line)) × (is_by_states options.search ≡ false))))
 IsReadOf entered (Check steps flags excuses) = IsCheckOf entered (Some (steps, flags)) × AreExcusesIn flags (rows_in entered) excuses
 IsReadOf entered (Jobs place) = AreJobsRead entered place
 IsReadOf entered (Merge steps place flags excuses) = IsSplitRead (codes "merge") entered (record { depth = steps; at = place; flags = flags }) excuses
+IsReadOf entered (Sample samples excuses printed) = AreSamplesOf entered (Some (samples, printed)) × (AreExcusesIn samples.flags (rows_in entered) excuses × HasKnownFormat entered)
 
 -- words are read where this command was found, or it was not found
 abbrev pub IsReplayReadOf : Option (Text × List Row) → Option Words → Type 0
@@ -183,6 +240,10 @@ abbrev pub IsMergeReadOf : Option (Text × List Row) → Option Words → Type 0
 IsMergeReadOf entered None = IsSplitOf (codes "merge") entered None
 IsMergeReadOf entered (Some words) = IsReadOf entered words
 
+abbrev pub IsSampleReadOf : Option (Text × List Row) → Option Words → Type 0
+IsSampleReadOf entered None = AreSamplesOf entered None
+IsSampleReadOf entered (Some words) = IsReadOf entered words
+
 -- the rows ask for something to be excused, or for nothing
 pub record CanExcuse (flags : Flags) (rows : List Row) : Type 0 where
   pub excuses : Excuses
@@ -193,12 +254,16 @@ pub record AsksForSplit (command : Text) (entered : Option (Text × List Row)) :
   pub excused : (found : Split) → IsSplitOf command entered (Some found) → CanExcuse found.flags (rows_in entered)
   pub within : (found : Split) → IsSplitOf command entered (Some found) → found.at ≤ found.depth
 
--- the command that was found asks for something: whatever is found of it can be excused, has nothing that is printed of no job alone, asks for nothing of the tree where the search is by states, and looks for jobs no deeper than its tree
+-- the command that was found asks for something: whatever is found of it can be excused, has a format that there is, has nothing that is printed of no job alone, asks for nothing of the tree where the search is by states and for no cover beside terms, and looks for jobs no deeper than its tree
 pub record AsksForOne (entered : Option (Text × List Row)) : Type 0 where
   pub explore : (found : Options × Printed) → AreOptionsOf entered (Some found) → CanExcuse found.0.flags (rows_in entered)
-  pub job : (found : Options × Printed) → AreOptionsOf entered (Some found) → (line : Text) → job_in entered ≡ Some line → (found.1.explained || found.1.cover) ≡ false
+  pub format : (found : Options × Printed) → AreOptionsOf entered (Some found) → HasKnownFormat entered
+  pub job : (found : Options × Printed) → AreOptionsOf entered (Some found) → (line : Text) → job_in entered ≡ Some line → (found.1.explained || (found.1.cover || found.1.terms)) ≡ false
   pub states : (found : Options × Printed) → AreOptionsOf entered (Some found) → is_by_states found.0.search ≡ true → (found.1.cover ≡ false) × (job_in entered ≡ None)
+  pub terms : (found : Options × Printed) → AreOptionsOf entered (Some found) → (found.1.terms && found.1.cover) ≡ false
   pub check : (found : ℕ × Flags) → IsCheckOf entered (Some found) → CanExcuse found.1 (rows_in entered)
   pub jobs : AsksForSplit (codes "jobs") entered
   pub merge : AsksForSplit (codes "merge") entered
-  pub some : schedule_in entered ≡ None → AreOptionsOf entered None → IsCheckOf entered None → IsSplitOf (codes "jobs") entered None → IsSplitOf (codes "merge") entered None → ⊥
+  pub sample : (found : Samples × Printed) → AreSamplesOf entered (Some found) → CanExcuse found.0.flags (rows_in entered)
+  pub sample_format : (found : Samples × Printed) → AreSamplesOf entered (Some found) → HasKnownFormat entered
+  pub some : schedule_in entered ≡ None → AreOptionsOf entered None → IsCheckOf entered None → IsSplitOf (codes "jobs") entered None → IsSplitOf (codes "merge") entered None → AreSamplesOf entered None → ⊥

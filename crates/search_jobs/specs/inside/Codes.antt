@@ -18,7 +18,8 @@ abbrev pub coded_steps : Coded (List Step)
 coded_steps = coded_list steps.the_row.coded
 
 abbrev coded_flags : Coded Flags
-coded_flags = code_by (Bool × Bool) (coded× coded_bool coded_bool) (λ f. (f.allow_deadlock, f.strict_access)) (λ p. record { allow_deadlock = p.0; strict_access = p.1 }) (λ _. refl)
+coded_flags =
+    code_by (Bool × (Bool × Bool)) (coded× coded_bool (coded× coded_bool coded_bool)) (λ f. (f.allow_deadlock, (f.strict_access, f.idle_servers))) (λ p. record { allow_deadlock = p.0; strict_access = p.1.0; idle_servers = p.1.1 }) (λ _. refl)
 
 abbrev pub coded_name : Coded Job
 coded_name = code_by (List Step × List Step) (coded× coded_steps coded_steps) (λ j. (j.prefix, j.slept)) (λ p. record { prefix = p.0; slept = p.1 }) (λ _. refl)

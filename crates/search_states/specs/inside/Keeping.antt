@@ -30,7 +30,7 @@ AreRead known rs = AllByRecursion (λ r. CanRead known (numbers_in r.row)) rs
 abbrev pub Comes : Known → Known → Type 0
 Comes later earlier = Follows later.store earlier.store
 
--- the deadlock that is shown in a world, if one is, is put after others
+-- the deadlock that is shown in a world, if one is, is put after others, and then what is unread
 abbrev pub AddsDeadlockIn : Known → (ℕ → ℕ) → List Identity → List Identity → Type 0
 AddsDeadlockIn known numbers old new = InWorlds known numbers (λ m h. AddsDeadlock (program_of m) h old new)
 

@@ -256,6 +256,68 @@ fn applications_go_on_up_to_the_limit(rt: HostRuntime) -> Result<(), Fail> {
     Ok(())
 }
 
+// The attributes of a module, the number that `down/1` counts down from, which makes one application more than that, and
+// what is asked.
+const ALLOWING: [(&str, &str, &str); 24] = [
+    ("", "9999", DONE),
+    ("", "10000", AWAY),
+    ("'explore_applications' = [3]", "2", DONE),
+    ("'explore_applications' = [3]", "3", AWAY),
+    ("'explore_applications' = [1]", "0", DONE),
+    ("'explore_applications' = [1]", "1", AWAY),
+    ("'explore_applications' = [1000000]", "999999", DONE),
+    ("'explore_applications' = [1000000]", "1000000", AWAY),
+    // no number that can be said
+    ("'explore_applications' = [0]", "9999", DONE),
+    ("'explore_applications' = [0]", "10000", AWAY),
+    ("'explore_applications' = [-3]", "9", DONE),
+    ("'explore_applications' = [1000001]", "9999", DONE),
+    ("'explore_applications' = [1000001]", "10000", AWAY),
+    // not a list of one integer
+    ("'explore_applications' = 3", "9", DONE),
+    ("'explore_applications' = []", "9", DONE),
+    ("'explore_applications' = [3,3]", "9", DONE),
+    ("'explore_applications' = ['3']", "9", DONE),
+    ("'explore_applications' = [[3]]", "9", DONE),
+    ("'explore_applications' = {3}", "9", DONE),
+    ("'explore_applications' = [3|3]", "9", DONE),
+    ("'explore_applications' = \"\\003\"", "9", DONE),
+    // another name, and the first of the name that says a number
+    ("'applications' = [3]", "9", DONE),
+    (
+        "'explore_applications' = [0], 'vsn' = [1], 'explore_applications' = [4], 'explore_applications' = [9]",
+        "3",
+        DONE,
+    ),
+    (
+        "'explore_applications' = [0], 'vsn' = [1], 'explore_applications' = [4], 'explore_applications' = [9]",
+        "4",
+        AWAY,
+    ),
+];
+
+const DONE: &str = "lookup 't' 'done'\n'normal'";
+
+const AWAY: &str = "runs away";
+
+// A module with these attributes, whose first process counts down from this number.
+fn counting(alloc: Global, attributes: &str, number: &str) -> Result<Module, Fail> {
+    let head = format!(in alloc;
+        "module 'm' [] attributes [{attributes}] 'down'/1 = fun (N) -> case N of <0> when 'true' -> 'done' <M> when 'true' -> apply 'down'/1(call 'erlang':'-'(M,1)) end 'main'/0 = fun () -> "
+    )?;
+    let body = format!(in alloc; "call 'ets':'lookup'('t',apply 'down'/1({number}))")?;
+    program(alloc, head.as_str(), body.as_str())
+}
+
+#[test]
+fn modules_allow_applications(rt: HostRuntime) -> Result<(), Fail> {
+    for (attributes, number, asked) in ALLOWING {
+        let program = counting(rt.alloc(), attributes, number)?;
+        begins(rt.alloc(), &program, "main", asked)?;
+    }
+    Ok(())
+}
+
 // A function that applies itself within 20 constructs until its argument is 0, and asks then: at 9,000 some
 // 200,000 frames are on the stack.
 const DEEP: &str =

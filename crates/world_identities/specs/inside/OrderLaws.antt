@@ -12,7 +12,7 @@ use Rattle.term_core.specs.inside.OrderLaws.{items_total, first_Equal, second_Eq
 use Rattle.core_calls.specs.CallCodes.{number_of_call, call_of_number, call_of_number-number_of_call}
 use Rattle.core_calls.specs.declared.call.CallKind.{CallKind}
 use Rattle.world_model.specs.Names.{Pid}
-use Rattle.world_model.specs.Shown.{Identity, End, Deadlock, Runaway, RefusedCall}
+use Rattle.world_model.specs.Shown.{Identity, End, Deadlock, Runaway, RefusedCall, Unread}
 use Rattle.world_model.specs.declared.rule.Rule.{Rule}
 use Rattle.world_model.specs.declared.rule.Rule.TheVariants.{BadTable, NoTable, PrivateRead, PrivateWrite, ProtectedWrite, NotOwner, BadName, BadOption, NameTaken, NotObject, ShortObject, BadPosition, NoKey, NotInteger, BagRefused, DeadTarget, OwnTarget, BadItem, CounterRange}
 use Rattle.world_identities.specs.Order.{number_of_rule, kind_of, processes_of, terms_of, request_of, function_of, rule_of, owner_of, call_of, order_of_processes, order_of_calls, order_of_identities}
@@ -138,6 +138,7 @@ one_identity (Deadlock ps) (Deadlock qs) h = ap Deadlock h.processes
 one_identity (Runaway p) (Runaway q) h = ap Runaway (same_only p q h.processes)
 one_identity (RefusedCall p k c xs r o) (RefusedCall q l d ys s u) h =
     λ i. RefusedCall (same_only p q h.processes i) (h.request i) (same_call c d h.call i) (h.terms i) (same_rule r s h.rule i) (same_owner o u h.owner i)
+one_identity (Unread ps) (Unread qs) h = ap Unread h.processes
 one_identity i j h = absurd (by_kind h.kind)
   where
     by_kind : kind_of i ≡ kind_of j → ⊥

@@ -1,6 +1,6 @@
 // Small modules, and what happens by their schedules.
 ghost use Rattle.world_model.specs.BondExamples.{RunawayIsTold, UnlinkedIsDropped, UnlinkedIsNotTold, FormerHolderFreesNoName, FormerOwnerDestroysNoTable, LateLinkIsTold, LateWatchIsTold, UnwatchedIsNotTold, UnwatchedIsDropped, FlushTakesTheMessage, MessageStays, SendsToItself, EndsByItsExit, TrapsItsExit, ReferenceIsMade, LaterHeirInherits};
-ghost use Rattle.world_model.specs.ShownExamples.{RefusalIsShown, RefusalIsListed, RefusalIsNoError, RefusalIsErrorIfStrict, EndIsError, NormalEndShowsNothing};
+ghost use Rattle.world_model.specs.ShownExamples.{RefusalIsShown, RefusalIsListed, RefusalIsNoError, RefusalIsErrorIfStrict, EndIsError, NormalEndShowsNothing, UnreadIsShown, UnreadIsNoError, UnreadIsErrorIfIdle, UnreadIsNoRefusal, TakenIsNotUnread, IdleHasNone, FirstWaitsToo};
 ghost use Rattle.world_model.specs.ReceiveExamples.{SecondIsHeard, WaitsForIts, TakesItsFirst, TakesTheOther, TakesTheOlder, ComesToTimeout, ComesToMessage};
 ghost use Rattle.world_model.specs.TableExamples.{WritesItsTable, HasNoNinth, StrangerIsRefused, StrangerFindsNone, StrangerEnds, OldOwnerIsRefused, HeirIsTold, HeirWrites, HeirTimesOut, NoHeirNoTable, PresentOwnerCounts, PrivateIsUnread, StrangerBeforeObject, OwnerOfShort, OwnersCall, InfoOfNone, ItemIsUnknown, GiftToItself};
 ghost use Rattle.world_model.specs.ProcessExamples.{UndefinedEnds, KillEnds, KillIsTold, EndIsTold, NameIsServed, LateLinkFails, LateLinkEnds, ItWaits, ItIsKilled, ThenItIsGone};
@@ -115,6 +115,20 @@ pub fn identities_are_shown()
     ensures strict { RefusalIsErrorIfStrict }
     ensures end { EndIsError }
     ensures normal { NormalEndShowsNothing }
+{}
+
+/// Messages that a process does not take are shown where no step is enabled and the first process has ended. They are
+/// an error where servers have to be idle, and never a refused call. An idle process has none, and where the first
+/// process waits too only the deadlock is shown.
+#[tactic(auto, unfolding(crate::specs::World::contents))]
+pub fn unread_messages_are_shown()
+    ensures unread { UnreadIsShown }
+    ensures no_error { UnreadIsNoError }
+    ensures error { UnreadIsErrorIfIdle }
+    ensures no_refusal { UnreadIsNoRefusal }
+    ensures taken { TakenIsNotUnread }
+    ensures idle { IdleHasNone }
+    ensures first { FirstWaitsToo }
 {}
 
 /// The signal of a link or a watch that is gone is dropped, and a watch that ended before has none; with `flush` its

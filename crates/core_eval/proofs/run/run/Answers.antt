@@ -3,6 +3,7 @@ use Rattle.core_semantics.specs.Applications.{setting_of}
 use Rattle.core_semantics.specs.Ask.{request_of}
 use Rattle.core_semantics.specs.Asked.{Asked}
 use Rattle.core_semantics.specs.Evaluation.{Setting, State}
+use Rattle.core_semantics.specs.Limits.{allowed, allowed_by}
 use Rattle.core_stack.specs.Holes.{Hole}
 use Rattle.std.specs.Prelude.{List}
 use Rattle.core_eval.specs.declared.control.Pause.{Pause}
@@ -18,14 +19,16 @@ pub applications-preserved : goal.applications-preserved
 applications-preserved c = λ answers.
     let setting : Setting = setting_of c.args.program.now c.args.own.now in
     let s : State = record { answers = answers; made = c.applications._made } in
+    let is : c.allowed_by-allowed.result ≡ allowed c.args.program.now = c.allowed_by-allowed.ensures ∙ ap allowed_by c.as_slice.ensures.value ∙ ap allowed c.program.view_is in
     asks_in_body c.args.program.now c.args.own.now c.in-Application.function.now c.in-Application.arguments s
-    c.advance.new.stack c.apply.new.stack c.in_ok-control-in-Application.control _ (omega (arith, c.applications-test.true)) c.in_ok-control-in-Application.ensures.same
+    c.advance.new.stack c.apply.new.stack c.in_ok-control-in-Application.control _ (omega (arith, c.applications-test.true, is)) c.in_ok-control-in-Application.ensures.same
     (at_pause setting c.advance.new.stack _ _ s _ c.in-Application.is (ap request_of (c.in_ok-halt.ensures setting refl s) ∙ c.applications.invariant answers))
 
 pub returns : goal.returns
 returns c = λ answers.
     let setting : Setting = setting_of c.args.program.now c.args.own.now in
     let s : State = record { answers = answers; made = c.applications._made } in
+    let is : c.allowed_by-allowed.result ≡ allowed c.args.program.now = c.allowed_by-allowed.ensures ∙ ap allowed_by c.as_slice.ensures.value ∙ ap allowed c.program.view_is in
     asks_to_run_away c.args.program.now c.args.own.now c.in-Application-2.field-0.now c.in-Application-2.field-1 s
-    c.advance-2.new.stack _ (omega (arith, c.applications-test.false))
+    c.advance-2.new.stack _ (omega (arith, c.applications-test.false, is))
     (at_pause setting c.advance-2.new.stack _ _ s _ c.in-Application-2.is (ap request_of (c.in_ok-halt-2.ensures setting refl s) ∙ c.applications.invariant answers))

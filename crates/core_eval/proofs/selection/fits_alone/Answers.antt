@@ -1,4 +1,4 @@
-use Rattle.std.proofs.Common.{List, ◌∷◌, [], ◌∙◌, arith, length, ap, map}
+use Rattle.std.proofs.Common.{arith, length, ap}
 use Rattle.core_tree.specs.Tree.{pattern_of}
 use Rattle.term_core.specs.Term.{meaning_of}
 use Rattle.std.proofs.lemmas.List.{length-map}

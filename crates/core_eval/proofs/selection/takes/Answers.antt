@@ -2,7 +2,6 @@ use Rattle.std.proofs.Common.{◌≡◌, ◌∷◌, ◌∙◌, [], true, false, 
 use Rattle.std.specs.Prelude.{is_some}
 use Rattle.term_core.specs.Term.{meaning_of}
 use Rattle.core_tree.specs.Syntax.{ClauseTree, patterns_of}
-use Rattle.core_tree.specs.Tree.{tree_of}
 use Rattle.core_semantics.specs.Applications.{setting_of}
 use Rattle.core_semantics.specs.Evaluation.{at_rest, evaluate}
 use Rattle.core_stack.specs.Holes.{scope}

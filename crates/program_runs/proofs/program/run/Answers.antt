@@ -11,6 +11,7 @@ returns-in-Ok-clause-run g c ran = record {
   jobs = c.in-Ok.ensures.jobs;
   merge = c.in-Ok.ensures.merge;
   check = c.in-Ok.ensures.check;
+  sample = c.in-Ok.ensures.sample;
   named = c.in-Ok.ensures.named;
   in_range = c.in-Ok.ensures.range;
   outcome = c.run_asked-outcome.result;
@@ -34,4 +35,5 @@ returns-in-Err-clause-refused g c refused = record {
   no_jobs = λ depth asks. c.write_words_error.ensures.1 (c.in-Err.ensures.jobs depth asks);
   no_merge = λ depth at flags x asks. c.write_words_error.ensures.1 (c.in-Err.ensures.merge depth at flags x asks);
   no_check = λ depth flags x asks. c.write_words_error.ensures.1 (c.in-Err.ensures.check depth flags x asks);
+  no_sample = λ samples x what asks. c.write_words_error.ensures.1 (c.in-Err.ensures.sample samples x what asks);
 }

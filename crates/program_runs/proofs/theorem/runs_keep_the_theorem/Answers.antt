@@ -1,4 +1,4 @@
-use Rattle.program_runs.proofs.TheoremLaws.{all_means_all, all_prompt, clean_means_none, clean_means_no_prompt_one, prompt_report_is_exact, report_is_exact, schedule_is_least, transcript_is_the_run}
+use Rattle.program_runs.proofs.TheoremLaws.{all_means_all, all_prompt, clean_means_none, clean_means_no_prompt_one, prompt_report_is_exact, report_is_exact, sample_is_shown, schedule_is_least, transcript_is_the_run}
 use Rattle.program_runs.proofs.theorem.runs_keep_the_theorem.Goals as goal
 
 pub returns-clause-clean : goal.returns-clause-clean
@@ -51,6 +51,9 @@ returns-clause-prompt_exact c = prompt_report_is_exact record {
   refusals = c.findings_are_of_nodes.ensures.refusals;
   root = c.jobs_have_their_nodes.ensures.root;
 }
+
+pub returns-clause-sample : goal.returns-clause-sample
+returns-clause-sample c = sample_is_shown c.samples_are_shown.ensures
 
 pub returns-clause-transcript : goal.returns-clause-transcript
 returns-clause-transcript c = transcript_is_the_run c.replays_are_runs.ensures.whole

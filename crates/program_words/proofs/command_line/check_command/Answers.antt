@@ -16,5 +16,6 @@ returns-clause-line c =
     let one = made_with _ _ _ _ _ new c.depth_option.ensures c.in_ok-arg.ensures in
     let two = made_with _ _ _ _ _ one c.allow_deadlock_flag.ensures c.in_ok-arg-2.ensures in
     let three = made_with _ _ _ _ _ two c.main_deadlock_flag.ensures c.in_ok-arg-3.ensures in
-    let four = made_with _ _ _ _ _ three c.normal_option.ensures c.in_ok-arg-4.ensures in
-    made_with _ _ _ _ _ four c.strict_access_flag.ensures c.in_ok-check.ensures
+    let four = made_with _ _ _ _ _ three c.idle_servers_flag.ensures c.in_ok-arg-4.ensures in
+    let five = made_with _ _ _ _ _ four c.normal_option.ensures c.in_ok-arg-5.ensures in
+    made_with _ _ _ _ _ five c.strict_access_flag.ensures c.in_ok-check.ensures

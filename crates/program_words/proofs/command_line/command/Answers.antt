@@ -12,4 +12,5 @@ returns-clause-line c =
     let two = line_with _ _ _ _ _ one c.in_ok-explore_command.ensures.line c.in_ok-subcommand-2.ensures in
     let three = line_with _ _ _ _ _ two c.in_ok-check_command.ensures.line c.in_ok-subcommand-3.ensures in
     let four = line_with _ _ _ _ _ three c.in_ok-jobs_command.ensures.line c.in_ok-subcommand-4.ensures in
-    line_with _ _ _ _ _ four c.in_ok-merge_command.ensures.line c.in_ok-explorer.ensures
+    let five = line_with _ _ _ _ _ four c.in_ok-merge_command.ensures.line c.in_ok-subcommand-5.ensures in
+    line_with _ _ _ _ _ five c.in_ok-sample_command.ensures.line c.in_ok-explorer.ensures

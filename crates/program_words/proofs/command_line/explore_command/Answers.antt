@@ -18,10 +18,12 @@ returns-clause-line c =
     let three = made_with _ _ _ _ _ two c.workers_option.ensures c.in_ok-arg-3.ensures in
     let four = made_with _ _ _ _ _ three c.allow_deadlock_flag.ensures c.in_ok-arg-4.ensures in
     let five = made_with _ _ _ _ _ four c.main_deadlock_flag.ensures c.in_ok-arg-5.ensures in
-    let six = made_with _ _ _ _ _ five c.normal_option.ensures c.in_ok-arg-6.ensures in
-    let seven = made_with _ _ _ _ _ six c.strict_access_flag.ensures c.in_ok-arg-7.ensures in
-    let eight = made_with _ _ _ _ _ seven c.flag.ensures c.in_ok-arg-8.ensures in
-    let nine = made_with _ _ _ _ _ eight c.flag-2.ensures c.in_ok-arg-9.ensures in
-    let ten = made_with _ _ _ _ _ nine c.job_option.ensures c.in_ok-arg-10.ensures in
-    let eleven = made_with _ _ _ _ _ ten c.flag-3.ensures c.in_ok-arg-11.ensures in
-    made_with _ _ _ _ _ eleven c.flag-4.ensures c.in_ok-explore.ensures
+    let six = made_with _ _ _ _ _ five c.idle_servers_flag.ensures c.in_ok-arg-6.ensures in
+    let seven = made_with _ _ _ _ _ six c.normal_option.ensures c.in_ok-arg-7.ensures in
+    let eight = made_with _ _ _ _ _ seven c.strict_access_flag.ensures c.in_ok-arg-8.ensures in
+    let nine = made_with _ _ _ _ _ eight c.explain_flag.ensures c.in_ok-arg-9.ensures in
+    let ten = made_with _ _ _ _ _ nine c.flag.ensures c.in_ok-arg-10.ensures in
+    let eleven = made_with _ _ _ _ _ ten c.job_option.ensures c.in_ok-arg-11.ensures in
+    let twelve = made_with _ _ _ _ _ eleven c.flag-2.ensures c.in_ok-arg-12.ensures in
+    let thirteen = made_with _ _ _ _ _ twelve c.at_once_flag.ensures c.in_ok-arg-13.ensures in
+    made_with _ _ _ _ _ thirteen c.format_option.ensures c.in_ok-explore.ensures

@@ -9,4 +9,5 @@ returns c =
     record {
       allow_deadlock = flag_of found (codes "allow-deadlock") c.get_flag.result c.get_flag.ensures.value c.get_flag.ensures.other;
       strict_access = flag_of found (codes "strict-access") c.get_flag-2.result c.get_flag-2.ensures.value c.get_flag-2.ensures.other;
+      idle_servers = flag_of found (codes "idle-servers") c.get_flag-3.result c.get_flag-3.ensures.value c.get_flag-3.ensures.other;
     }

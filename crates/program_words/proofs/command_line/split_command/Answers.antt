@@ -17,5 +17,6 @@ returns-clause-line c =
     let two = made_with _ _ _ _ _ one c.at_option.ensures c.in_ok-arg-2.ensures in
     let three = made_with _ _ _ _ _ two c.allow_deadlock_flag.ensures c.in_ok-arg-3.ensures in
     let four = made_with _ _ _ _ _ three c.main_deadlock_flag.ensures c.in_ok-arg-4.ensures in
-    let five = made_with _ _ _ _ _ four c.normal_option.ensures c.in_ok-arg-5.ensures in
-    made_with _ _ _ _ _ five c.strict_access_flag.ensures c.in_ok-split.ensures
+    let five = made_with _ _ _ _ _ four c.idle_servers_flag.ensures c.in_ok-arg-5.ensures in
+    let six = made_with _ _ _ _ _ five c.normal_option.ensures c.in_ok-arg-6.ensures in
+    made_with _ _ _ _ _ six c.strict_access_flag.ensures c.in_ok-split.ensures

@@ -3,14 +3,15 @@ use Rattle.std.specs.Prelude.{Err}
 use Rattle.std.proofs.lemmas.Result.{err_from_is_err_and}
 use Rattle.clap.specs.Words.{app_of, subcommand_rows_of}
 use Rattle.program_words.specs.inside.CommandLine.{listing, merging}
-use Rattle.program_words.specs.Words.{AsksCheck, AsksExplore, AsksExploreJob, AsksJobs, AsksMerge, AsksReplay, IsInRange, IsNamed, command_of, report_alone}
+use Rattle.program_words.specs.Words.{AsksCheck, AsksExplore, AsksExploreJob, AsksJobs, AsksMerge, AsksReplay, AsksSample, IsInRange, IsNamed, command_of, report_alone}
 use Rattle.program_words.specs.declared.words.Words.{Words}
 use Rattle.program_words.proofs.Checked.{check_passes}
 use Rattle.program_words.proofs.Explored.{explore_passes}
 use Rattle.program_words.proofs.Reading.{entered_is, passes_is, read_as, read_fails, read_holds, refused_for_memory}
 use Rattle.program_words.proofs.Replayed.{replay_passes}
+use Rattle.program_words.proofs.Sampled.{sample_passes}
 use Rattle.program_words.proofs.Splitting.{split_passes}
-use Rattle.program_words.proofs.Unread.{all_jobs_ask, all_jobs_reads, check_asks, check_is_read, jobs_ask, jobs_reads, merge_asks, merge_reads, nothing_unread, one_job_asks, one_job_reads, read_in_range, read_is_named, replay_asks, replay_reads}
+use Rattle.program_words.proofs.Unread.{all_jobs_ask, all_jobs_reads, check_asks, check_is_read, jobs_ask, jobs_reads, merge_asks, merge_reads, nothing_unread, one_job_asks, one_job_reads, read_in_range, read_is_named, replay_asks, replay_reads, sample_asks, sample_is_read}
 use Rattle.program_words.proofs.words.read_words.Goals as goal
 
 pub returns-in_err-matches-clause-replay : goal.returns-in_err-matches-clause-replay
@@ -55,6 +56,13 @@ returns-in_err-matches-clause-merge g c steps place flags excuses asks =
     refused_for_memory (app_of c.in_ok-command.command) words (AsksMerge steps place flags excuses) c.in_err-matches.field-0.0 c.from_residual-in_err-matches.result
     c.in_ok-command.ensures.line (split_passes merging words asks.given steps place flags asks.says) c.in_err-matches.ensures.kinds (p.1 ∙ ap Err p.2)
 
+pub returns-in_err-matches-clause-sample : goal.returns-in_err-matches-clause-sample
+returns-in_err-matches-clause-sample g c samples excuses printed asks =
+    let words = map g.S.AsStr.text c.args.words.now in
+    let p = err_from_is_err_and c.from_residual-in_err-matches.result c.from_residual-in_err-matches.ensures.1 in
+    refused_for_memory (app_of c.in_ok-command.command) words (AsksSample samples excuses printed) c.in_err-matches.field-0.0 c.from_residual-in_err-matches.result
+    c.in_ok-command.ensures.line (sample_passes words asks.given samples printed asks.says) c.in_err-matches.ensures.kinds (p.1 ∙ ap Err p.2)
+
 pub returns-clause-replay : goal.returns-clause-replay
 returns-clause-replay g c schedule asks =
     let words = map g.S.AsStr.text c.args.words.now in
@@ -96,6 +104,13 @@ returns-clause-merge g c steps place flags excuses asks =
     let found = subcommand_rows_of c.in_ok-matches.matches in
     let entered = entered_is (app_of c.in_ok-command.command) words found c.in_ok-command.ensures.line c.in_ok-matches.ensures.matches in
     read_as words found entered c.read_command.result c.read_command.ensures.ok (AsksMerge steps place flags excuses) c.read_command.ensures.refused (merge_reads words steps place flags excuses asks) (merge_asks words steps place flags excuses asks)
+
+pub returns-clause-sample : goal.returns-clause-sample
+returns-clause-sample g c samples excuses printed asks =
+    let words = map g.S.AsStr.text c.args.words.now in
+    let found = subcommand_rows_of c.in_ok-matches.matches in
+    let entered = entered_is (app_of c.in_ok-command.command) words found c.in_ok-command.ensures.line c.in_ok-matches.ensures.matches in
+    read_as words found entered c.read_command.result c.read_command.ensures.ok (AsksSample samples excuses printed) c.read_command.ensures.refused (sample_is_read words samples excuses printed asks) (sample_asks words samples excuses printed asks)
 
 pub returns-clause-unread : goal.returns-clause-unread
 returns-clause-unread g c bad =

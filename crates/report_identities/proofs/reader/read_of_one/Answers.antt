@@ -10,7 +10,7 @@ pub returns-in_err-pid : goal.returns-in_err-pid
 returns-in_err-pid c =
     let p = err_from_is_err_and c.from_residual.result c.from_residual.ensures.1 in
     let only = rw c.split_before.ensures.before at c.in_err-pid.ensures in
-    rw (p.1, p.2) (refused_process c.args.text.now _ c.requires only)
+    rw (p.1, p.2) (refused_process c.args.text.now _ c.requires.deadlock c.requires.unread only)
 
 pub read_behind_process-requires-clause-blank : goal.read_behind_process-requires-clause-blank
 read_behind_process-requires-clause-blank c = rw c.split_before.ensures.rest (rest_begins 32 c.args.text.now)

@@ -12,8 +12,8 @@ use Rattle.search_states.proofs.search.search_states.Goals as goal
 use Rattle.world_identities.specs.Identities.{identity_in}
 use Rattle.world_identities.specs.declared.identity.Identity.{Identity}
 use Rattle.world_model.specs.Asking.{program_of}
-use Rattle.world_model.specs.Run.{enabled_steps, living}
-use Rattle.world_model.specs.Shown.{deadlock_of}
+use Rattle.world_model.specs.Run.{enabled_steps}
+use Rattle.world_model.specs.Shown.{shown_at_rest}
 
 -- what is known may be shared
 pub search_levels-requires-sync-W : goal.search_levels-requires-sync-W
@@ -38,5 +38,5 @@ returns g c =
     let told = c.in_ok-add_deadlock.ensures.adds shown_in.store m [] (follows_itself shown_in.store) (are_later known.store shown_in.store numbers c.add_deadlock.ensures.knows.follows kept m [] are) in
     IfOk-weaker c.search_levels.result _ _
     (λ searched is. is c.search_levels.new.worlds (follows_itself last.store) m (are_later known.store last.store numbers follows kept m [] are)
-    (ap (map identity_in) c.as_slice.ensures.value ∙ told ∙ ap (λ (xs : List Identity). map identity_in xs ++ deadlock_of (enabled_steps (program_of m) []) (living [])) c.new-shown.ensures.items))
+    (ap (map identity_in) c.as_slice.ensures.value ∙ told ∙ ap (λ (xs : List Identity). map identity_in xs ++ shown_at_rest (enabled_steps (program_of m) []) []) c.new-shown.ensures.items))
     c.search_levels.ensures.searched

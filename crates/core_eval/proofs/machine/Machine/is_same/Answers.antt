@@ -2,7 +2,7 @@ use Rattle.std.proofs.Common.{◌≡◌, ◌∙◌, ap, sym}
 use Rattle.std.proofs.lemmas.Slice.Eq.{bytes_eq-Decides}
 use Rattle.std.specs.Str.{bytes_eq}
 use Rattle.core_stack.specs.inside.Bare.{bare_holes}
-use Rattle.core_eval.specs.Standing.{AreOne, Standing, is_spent, module_in}
+use Rattle.core_eval.specs.Standing.{Standing, is_spent}
 use Rattle.core_eval.proofs.Sameness.{are_one, not_off}
 use Rattle.core_eval.proofs.machine.Machine.is_same.Goals as goal
 

@@ -1,0 +1,65 @@
+use Rattle.std.proofs.Common.{◌++◌, ap, ◌∙◌}
+use Rattle.std.specs.Prelude.{Err}
+use Rattle.std.proofs.lemmas.Result.{err_from_is_err_and}
+use Rattle.term_core.specs.inside.Writing.{owes_all, owes_last, owes_less}
+use Rattle.world_model.specs.Asking.{program_of}
+use Rattle.tree_excuses.specs.Excuses.{excuses_in}
+use Rattle.report_text.specs.ReportText.{text_of_counts}
+use Rattle.report_text.specs.SampleText.{sample_first_line, sample_last_line}
+use Rattle.report_explained.specs.Explained.{explained_findings}
+use Rattle.report_explained.specs.declared.explain_fault.ExplainFault.TheVariants.{Write}
+use Rattle.report_explained.proofs.Parts.{last_fails, part_fails}
+use Rattle.report_explained.proofs.explained_sample.write_explained_sample.Goals as goal
+
+pub returns-in_err-write_sample_first_line : goal.returns-in_err-write_sample_first_line
+returns-in_err-write_sample_first_line g c =
+    let p = err_from_is_err_and c.from_residual.result c.from_residual.ensures.1 in
+    let a = program_of c.args.program.now in
+    let x = excuses_in c.args.excuses.now in
+    let fs = c.args.findings.now in
+    let o0 = owes_all _ _ in
+    part_fails _ _ (g.W.Sink.contents c.write_sample_first_line.new.sink) (g.W.Sink.has_failed c.write_sample_first_line.new.sink) c.from_residual.result Write (sample_first_line c.args.sampled) (explained_findings a x fs ++ (text_of_counts x fs ++ (sample_last_line x fs))) _ (p.1 ∙ ap Err p.2) o0 c.in_err-write_sample_first_line.ensures
+
+pub returns-in_err-write_explained_findings : goal.returns-in_err-write_explained_findings
+returns-in_err-write_explained_findings g c =
+    let p = err_from_is_err_and c.from_residual-in_err-write_explained_findings.result c.from_residual-in_err-write_explained_findings.ensures.1 in
+    let a = program_of c.args.program.now in
+    let x = excuses_in c.args.excuses.now in
+    let fs = c.args.findings.now in
+    let o0 = owes_all _ _ in
+    let o1 = owes_less _ _ _ (sample_first_line c.args.sampled) (explained_findings a x fs ++ (text_of_counts x fs ++ (sample_last_line x fs))) _ o0 c.in_ok-write_sample_first_line.ensures.appends in
+    part_fails _ _ (g.W.Sink.contents c.write_explained_findings.new.sink) (g.W.Sink.has_failed c.write_explained_findings.new.sink) c.from_residual-in_err-write_explained_findings.result c.in_err-write_explained_findings.field-0.0 (explained_findings a x fs) (text_of_counts x fs ++ (sample_last_line x fs)) _ (p.1 ∙ ap Err p.2) o1 c.in_err-write_explained_findings.ensures
+
+pub returns-in_err-write_counts : goal.returns-in_err-write_counts
+returns-in_err-write_counts g c =
+    let p = err_from_is_err_and c.from_residual-in_err-write_counts.result c.from_residual-in_err-write_counts.ensures.1 in
+    let a = program_of c.args.program.now in
+    let x = excuses_in c.args.excuses.now in
+    let fs = c.args.findings.now in
+    let o0 = owes_all _ _ in
+    let o1 = owes_less _ _ _ (sample_first_line c.args.sampled) (explained_findings a x fs ++ (text_of_counts x fs ++ (sample_last_line x fs))) _ o0 c.in_ok-write_sample_first_line.ensures.appends in
+    let o2 = owes_less _ _ _ (explained_findings a x fs) (text_of_counts x fs ++ (sample_last_line x fs)) _ o1 c.in_ok-write_explained_findings.ensures.appends in
+    part_fails _ _ (g.W.Sink.contents c.write_counts.new.sink) (g.W.Sink.has_failed c.write_counts.new.sink) c.from_residual-in_err-write_counts.result Write (text_of_counts x fs) (sample_last_line x fs) _ (p.1 ∙ ap Err p.2) o2 c.in_err-write_counts.ensures
+
+pub returns-in_err-write_sample_last_line : goal.returns-in_err-write_sample_last_line
+returns-in_err-write_sample_last_line g c =
+    let p = err_from_is_err_and c.from_residual-in_err-write_sample_last_line.result c.from_residual-in_err-write_sample_last_line.ensures.1 in
+    let a = program_of c.args.program.now in
+    let x = excuses_in c.args.excuses.now in
+    let fs = c.args.findings.now in
+    let o0 = owes_all _ _ in
+    let o1 = owes_less _ _ _ (sample_first_line c.args.sampled) (explained_findings a x fs ++ (text_of_counts x fs ++ (sample_last_line x fs))) _ o0 c.in_ok-write_sample_first_line.ensures.appends in
+    let o2 = owes_less _ _ _ (explained_findings a x fs) (text_of_counts x fs ++ (sample_last_line x fs)) _ o1 c.in_ok-write_explained_findings.ensures.appends in
+    let o3 = owes_less _ _ _ (text_of_counts x fs) (sample_last_line x fs) _ o2 c.in_ok-write_counts.ensures.appends in
+    last_fails _ _ (g.W.Sink.contents c.write_sample_last_line.new.sink) (g.W.Sink.has_failed c.write_sample_last_line.new.sink) c.from_residual-in_err-write_sample_last_line.result Write (sample_last_line x fs) _ (p.1 ∙ ap Err p.2) o3 c.in_err-write_sample_last_line.ensures
+
+pub returns : goal.returns
+returns g c =
+    let a = program_of c.args.program.now in
+    let x = excuses_in c.args.excuses.now in
+    let fs = c.args.findings.now in
+    let o0 = owes_all _ _ in
+    let o1 = owes_less _ _ _ (sample_first_line c.args.sampled) (explained_findings a x fs ++ (text_of_counts x fs ++ (sample_last_line x fs))) _ o0 c.in_ok-write_sample_first_line.ensures.appends in
+    let o2 = owes_less _ _ _ (explained_findings a x fs) (text_of_counts x fs ++ (sample_last_line x fs)) _ o1 c.in_ok-write_explained_findings.ensures.appends in
+    let o3 = owes_less _ _ _ (text_of_counts x fs) (sample_last_line x fs) _ o2 c.in_ok-write_counts.ensures.appends in
+    owes_last _ _ _ _ (sample_last_line x fs) _ o3 c.in_ok-write_sample_last_line.ensures

@@ -1,0 +1,10 @@
+pub mod Strings
+pub mod CallTerms
+pub mod EventTerms
+pub mod IdentityTerms
+pub mod TermsReport
+pub mod StringRows
+pub mod EventRows
+pub mod FirstTerms
+pub mod LastTerms
+pub mod inside

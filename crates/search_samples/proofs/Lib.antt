@@ -1,0 +1,4 @@
+pub mod Beginnings
+pub mod Chosen
+pub mod Walking
+pub mod Showing

@@ -1,7 +1,0 @@
-use Rattle.std.proofs.Common.{◌≡◌, drop}
-use Rattle.tree_excuses.specs.Excuses.{has_first}
-use Rattle.tree_excuses.proofs.excuses.has_first.Given as goal
-
--- none so far is the first process
-abbrev pub invariant-loop-pid : goal.invariant-loop-pid
-invariant-loop-pid l = has_first l.pids ≡ has_first (drop l.pid-index l.pids)
