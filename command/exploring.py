@@ -2,7 +2,7 @@
 from __future__ import annotations
 
 from collections.abc import Sequence
-from dataclasses import dataclass
+from dataclasses import dataclass, replace
 from typing import Optional
 
 from .ending import Ended
@@ -13,6 +13,8 @@ from .words import Request
 STEP, DEEPEST = 8, 400
 # A tree of at most so many nodes is explored deeper although it shows an error.
 FEW = 50_000
+# How many random schedules are followed where a search stops early without an error, and from which seed they are drawn.
+RUNS, SEED = 1_000, 1
 CLEAN, ERRORS, INCOMPLETE = 0, 1, 3
 # the reasons of an end on purpose, in the spelling of the program, in which '_' stands for any term
 ON_PURPOSE = ("'shutdown'", "{'shutdown','_'}")
@@ -26,25 +28,48 @@ class Explored:
     asked for; `deepest`, where there is no greater depth; `stopped`, where it did not come to the depth. Of a tree that is
     explored deeper and deeper it is `errors`, where the depth shows an error, and there are longer schedules; or `limit`,
     where the depth has too many nodes.
+
+    `sample` is what random schedules show, where the search stopped early without an error.
     """
 
     report: Report
     status: int
     reach: str
     depth: int
+    sample: Optional[Report] = None
+
+    @property
+    def shown(self) -> Report:
+        """The report whose findings are shown: that of random schedules, where these show errors."""
+        return self.sample if self.is_of_sample else self.report
+
+    @property
+    def is_of_sample(self) -> bool:
+        return self.sample is not None and self.sample.has_errors
 
     @property
     def coverage(self) -> str:
         return f"{self.reach} {self.depth}"
 
 
-def words_of_search(request: Request, normal: Sequence[str]) -> list[str]:
-    """The words for the program: by states, unless the tree is asked for, and at once, unless any delay is. An end with
-    `shutdown` or `{shutdown,Term}` is one on purpose, as OTP has it, unless ends are to be taken strictly."""
+@dataclass(frozen=True)
+class Words:
+    """The words for the program: those of a search, and those of random schedules."""
+
+    search: list[str]
+    sample: list[str]
+
+
+def words_for(request: Request, normal: Sequence[str]) -> Words:
+    """By states, unless the tree is asked for, and at once, unless any delay is. An end with `shutdown` or
+    `{shutdown,Term}` is one on purpose, as OTP has it, unless ends are to be taken strictly. A report for people is made of
+    terms."""
+    form = ["--explain"] if request.raw else ["--format", "terms"]
     states = [] if request.tree else ["--states"]
     prompt = ["--at-once"] if request.at_once else []
     on_purpose = [] if request.strict_ends else [it for it in ON_PURPOSE if it not in normal]
-    return [*request.search, *(f"--normal={it}" for it in [*on_purpose, *normal]), *states, *prompt]
+    counting = [*request.counting, *(f"--normal={it}" for it in [*on_purpose, *normal]), *prompt]
+    return Words([*form, *request.limits, *counting, *states], [*form, *counting])
 
 
 def explore(program: Program, search: Sequence[str], request: Request) -> Explored:
@@ -58,12 +83,25 @@ def explore(program: Program, search: Sequence[str], request: Request) -> Explor
     return Explored(report, status, reach, depth)
 
 
-def explore_promptly(program: Program, search: Sequence[str], request: Request, found: Report) -> Optional[Report]:
+def sample_after(program: Program, words: Sequence[str], request: Request, explored: Explored) -> Explored:
+    """The same, with what random schedules show where the search stopped early without an error. An error that counts has
+    status 1 then."""
+    if explored.status != INCOMPLETE or explored.reach not in ("stopped", "limit"):
+        return explored
+    depth = DEEPEST if request.depth is None else request.depth
+    ran = program.run("sample", "--depth", str(depth), "--runs", str(RUNS), "--seed", str(SEED), *words)
+    if ran.status not in (ERRORS, INCOMPLETE) or not ran.printed:
+        return explored
+    sample = Report(ran.printed)
+    return replace(explored, sample=sample, status=ERRORS if sample.has_errors else INCOMPLETE)
+
+
+def explore_promptly(program: Program, search: Sequence[str], request: Request, explored: Explored) -> Optional[Report]:
     """What schedules show in which signals arrive at once, beside a report with errors whose signals take any time.
 
     There is none where these were not all explored: a longer one may show the same error.
     """
-    if request.at_once or not found.lists_errors:
+    if request.at_once or explored.is_of_sample or not explored.report.lists_errors:
         return None
     depth = DEEPEST if request.depth is None else request.depth
     prompt = Report(_run_to(program, depth, [*search, "--at-once"]).printed)
@@ -71,7 +109,7 @@ def explore_promptly(program: Program, search: Sequence[str], request: Request, 
 
 
 def _run_to(program: Program, depth: int, search: Sequence[str]) -> Ran:
-    return program.run("explore", "--explain", "--depth", str(depth), *search)
+    return program.run("explore", "--depth", str(depth), *search)
 
 
 def _explored_to(program: Program, depth: int, search: Sequence[str]) -> tuple[Report, int, bool]:

@@ -13,7 +13,8 @@ A schedule is one order of events, step by step. All schedules are followed in w
 messages do on one node: each is in the mailbox when ! returns. They are followed until none is longer, to at most 400
 steps. Where several lead to the same state, only the least of them is followed further. It stops early where it has
 found as many states as it may, or where memory runs out. Then the report says to how many steps all schedules were
-followed, and what helps. The first and the last lines of the report say how far it came.
+followed, and what helps. Where it found no error by then, a thousand random schedules are followed too: an error that
+they show is reported. The first and the last lines of the report say how far it came.
 
 What is explored:
   --entry [m:]f/0      The first process runs f/0, of the module m or of the first file. Without this it runs main/0,
@@ -34,6 +35,8 @@ What is explored:
   --workers N          N threads explore, 1 to 16. Without this there is one. It helps with --tree. A search by states
                        gains next to nothing: only levels of 4096 states and more are shared out.
   --after-timeout MS   Timeouts of MS milliseconds and more never come.
+  --applications N     A process may call functions of its modules N times, 1 to 1000000, before it sends, receives or
+                       asks for anything. One that calls more runs away. Without this 10000.
   --replay SCHEDULE    Shows what happens in one schedule, such as "P P P.1>P". Nothing is explored.
 
 What counts as an error:
@@ -41,7 +44,8 @@ What counts as an error:
                        _ stands for any term: {error,_}. The option may be given up to 14 times.
   --strict-ends        An end with the reason shutdown or {shutdown,_} is an error too. Without this it is none, as
                        --normal says.
-  --main-deadlock      A deadlock is an error only where the first process waits in it.
+  --idle-servers       A deadlock is an error only where the first process waits in it. Where it has ended, the others
+                       may wait, but messages that stay unread in their mailboxes are an error.
   --allow-deadlock     No deadlock is an error.
   --strict-access      A refused call of a table that belongs to another process is an error too.
 

@@ -13,7 +13,7 @@ from typing import Optional
 from .children import need_erlang
 from .converting import convert, entry_of, names_of_tests
 from .ending import NO_PROGRAM, Ended, end_by_signals, say, show
-from .exploring import explore, explore_promptly, words_of_search
+from .exploring import Words, explore, explore_promptly, sample_after, words_for
 from .help_text import HELP
 from .junit import suite_of_errors, suite_of_tests, write_junit
 from .program import LAUNCHER, Program
@@ -79,11 +79,11 @@ def begun(request: Request) -> Iterator[tuple[Path, Optional[Reporter]]]:
         yield convert(request, Path(name)), waiting
 
 
-def ready(request: Request, module: Path, waiting: Optional[Reporter]) -> tuple[Program, list[str]]:
-    """The program that reads the module, and its words for a search."""
+def ready(request: Request, module: Path, waiting: Optional[Reporter]) -> tuple[Program, Words]:
+    """The program that reads the module, and its words."""
     program = Program(os.environ, module, request.source if request.is_converted else None)
     normal = waiting.spell(request.normal) if waiting and request.normal else request.normal
-    return program, words_of_search(request, normal)
+    return program, words_for(request, normal)
 
 
 def print_module(request: Request) -> int:
@@ -107,7 +107,8 @@ def replay(request: Request) -> int:
 def search_unchanged(request: Request) -> int:
     """Explores, and shows what the program printed."""
     with begun(request) as (module, waiting):
-        explored = explore(*ready(request, module, waiting), request)
+        program, words = ready(request, module, waiting)
+        explored = explore(program, words.search, request)
         show_raw(explored)
     return explored.status
 
@@ -132,6 +133,6 @@ def searched(request: Request) -> Told:
     began = time.monotonic()
     with begun(request) as (module, waiting):
         program, words = ready(request, module, waiting)
-        explored = explore(program, words, request)
-        report = report_of(waiting, program, explored, explore_promptly(program, words, request, explored.report), request)
+        explored = sample_after(program, words.sample, request, explore(program, words.search, request))
+        report = report_of(waiting, program, explored, explore_promptly(program, words.search, request, explored), request)
         return Told(request.source, entry_of(module), explored.status, report, time.monotonic() - began)

@@ -53,6 +53,7 @@ ALL = (
     Option("-pa", "a folder", os.path.isdir, most=None),
     Option("--env", "an application, a key and a term, as my_app.size=3", spelled(r"[^.=]+\.[^=]+=.+"), most=None),
     Option("--after-timeout", "a number of milliseconds", spelled("[0-9]+")),
+    Option("--applications", "a number of calls, 1 to 1000000", number(1, 1_000_000)),
     Option("-I", "a folder", os.path.isdir, most=None),
     Option("-D", "a macro, as NAME or NAME=VALUE", spelled(r"[^\W\d][\w@]*(=.*)?"), most=None),
     Option("--depth", "a number of steps, 0 to 400", number(0, 400)),
@@ -65,13 +66,14 @@ ALL = (
     Option("--junit", "the name of a file", spelled(".+")),
 )
 OPTIONS = {option.name: option for option in ALL}
-FLAGS = ("--eunit", "--any-delay", "--tree", "--strict-ends", "--main-deadlock", "--allow-deadlock", "--strict-access",
+FLAGS = ("--eunit", "--any-delay", "--tree", "--strict-ends", "--idle-servers", "--allow-deadlock", "--strict-access",
          "--unfold", "--steps", "--chart", "--mermaid", "--raw", "--core", "--notes", "--no-notes", "--strict")
 # which do not go together
-APART = (("--main-deadlock", "--allow-deadlock"), ("--junit", "--raw"), ("--junit", "--core"), ("--junit", "--replay"),
+APART = (("--idle-servers", "--allow-deadlock"), ("--junit", "--raw"), ("--junit", "--core"), ("--junit", "--replay"),
          ("--html", "--raw"), ("--html", "--core"), ("--html", "--replay"), ("--eunit", "--raw"), ("--eunit", "--core"), ("--eunit", "--replay"), ("--eunit", "--entry"))
-# which of them are for the converter, and which for the program
-CONVERSION = ("--entry", "-pa", "--env", "--after-timeout", "-I", "-D", "--notes", "--strict")
-SEARCH = ("--nodes", "--workers", "--strict-access", "--allow-deadlock", "--main-deadlock")
+# which of them are for the converter, and which for the program: the limits of a search, and what counts as an error
+CONVERSION = ("--entry", "-pa", "--env", "--after-timeout", "--applications", "-I", "-D", "--notes", "--strict")
+LIMITS = ("--nodes", "--workers")
+COUNTING = ("--strict-access", "--allow-deadlock", "--idle-servers")
 # and which for the report
 SHOWN = ("--unfold", "--steps", "--chart", "--mermaid")

@@ -15,14 +15,13 @@ from .words import Request
 def report_of(reporter: Reporter, program: Program, explored: Explored, prompt: Optional[Report], request: Request) -> str:
     """The report for people, with the mark of errors that no prompt report has."""
     room = reporter.room
-    _write(room / "report", explored.report.titles)
+    _write(room / "report", explored.shown.text)
+    if explored.is_of_sample:
+        _write(room / "before", explored.report.text)
+    elif explored.sample is not None:
+        _write(room / "sample", explored.sample.text)
     if prompt is not None:
-        _write(room / "prompt", prompt.titles)
-    transcripts = room / "transcripts"
-    transcripts.mkdir()
-    for place, transcript in enumerate(explored.report.transcripts, 1):
-        _write(transcripts / f"{place}", "".join(transcript.events))
-        _write(transcripts / f"{place}.waits", "".join(transcript.waits))
+        _write(room / "prompt", prompt.text)
     return _told(reporter, program, f"explore {explored.coverage} {request.nodes} {'normal' if request.tells_normal else 'plain'}")
 
 

@@ -8,7 +8,7 @@ from dataclasses import dataclass
 from typing import Optional
 
 from .ending import NO_INPUT, Ended, misread
-from .options import APART, CONVERSION, FLAGS, OPTIONS, SEARCH, SHOWN
+from .options import APART, CONVERSION, COUNTING, FLAGS, LIMITS, OPTIONS, SHOWN
 
 ASKING = ("-h", "--help", "--version")
 # How many states or nodes the program finds at most where nothing is asked.
@@ -19,14 +19,16 @@ MOST = 1_000_000
 class Request:
     """What the words ask for.
 
-    `source` is the file of the first module, and `conversion` and `search` are words for the converter and the program. `shown`
-    says how a report shows what happens, and `folders` where else there may be sources.
+    `source` is the file of the first module, and `conversion` words for the converter. Words for the program are the
+    `limits` of a search, and `counting`, which say what counts as an error. `shown` says how a report shows what happens,
+    and `folders` where else there may be sources.
     """
 
     files: list[str]
     source: str
     conversion: list[str]
-    search: list[str]
+    limits: list[str]
+    counting: list[str]
     normal: list[str]
     strict_ends: bool
     depth: Optional[int]
@@ -59,7 +61,7 @@ class Request:
     def tells_normal(self) -> bool:
         """Whether anything is to be taken as normal beside `shutdown` and `{shutdown,_}`, which are so unless it is asked
         for otherwise."""
-        return bool(self.normal) or "--main-deadlock" in self.search
+        return bool(self.normal) or "--idle-servers" in self.counting
 
 
 class Asked(Exception):
@@ -114,7 +116,8 @@ def read(words: Sequence[str]) -> Request:
         files=given.others,
         source=_source(given, conversion),
         conversion=conversion,
-        search=given.words_for(SEARCH),
+        limits=given.words_for(LIMITS),
+        counting=given.words_for(COUNTING),
         normal=given.values("--normal"),
         strict_ends=given.has("--strict-ends"),
         depth=None if depth is None else int(depth),

@@ -1,6 +1,6 @@
 #!/usr/bin/env escript
 %%! +A0 +fnu
-%% convert.escript FILE.erl [--entry f/0] [--after-timeout MS] [--strict] [--tests] [--notes] [--doubts FILE] [-I DIR] [-D NAME[=VALUE]]
+%% convert.escript FILE.erl [--entry f/0] [--after-timeout MS] [--applications N] [--strict] [--tests] [--notes] [--doubts FILE] [-I DIR] [-D NAME[=VALUE]]
 %% Prints the Core Erlang module that the explorer reads. README.md in this folder says more.
 -mode(interpret).
 -include("built.hrl").

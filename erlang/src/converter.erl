@@ -5,11 +5,11 @@
 
 -include("core.hrl").
 
--record(options, {files = [], folders = [], entry = none, after_timeout = none, strict = false, tests = false, notes = false, doubts = none, places = none, environment = [],
+-record(options, {files = [], folders = [], entry = none, after_timeout = none, applications = none, strict = false, tests = false, notes = false, doubts = none, places = none, environment = [],
                   compiler = []}).
 
 usage() ->
-    "usage: convert.escript FILE.erl|FILE.beam [FILE|FOLDER ..] [-pa FOLDER] [--entry [m:]f/0] [--after-timeout MS] [--strict] [--tests] [--notes]"
+    "usage: convert.escript FILE.erl|FILE.beam [FILE|FOLDER ..] [-pa FOLDER] [--entry [m:]f/0] [--after-timeout MS] [--applications N] [--strict] [--tests] [--notes]"
     " [--doubts FILE] [--places FILE] [--env APPLICATION.KEY=TERM] [-I DIR] [-D NAME[=VALUE]]\n".
 
 %% Prints, and gives the status. Library is the folder's library, {Name, Arity} => function.
@@ -37,6 +37,11 @@ options(["--entry", Entry | T], O) ->
 options(["--after-timeout", Text | T], O) ->
     case string:to_integer(Text) of
         {N, []} when N >= 0 -> options(T, O#options{after_timeout = N});
+        _ -> error
+    end;
+options(["--applications", Text | T], O) ->
+    case string:to_integer(Text) of
+        {N, []} when N >= 1, N =< 1000000 -> options(T, O#options{applications = N});
         _ -> error
     end;
 options(["--strict" | T], O) -> options(T, O#options{strict = true});
@@ -163,7 +168,7 @@ converted(Entry, Modules, Options, Library, L0) ->
     Reached = reach:by_names(FirstOrder, [{main, 0} | AllExports]),
     {Stopped, L4} = stops:put(Reached, Module, AllExports, L3),
     Ledger = readable:check(File, Stopped, Module, AllExports, L4),
-    {fun() -> core_text:module(File, Module, AllExports, Stopped) end, fun() -> clause_places:text(File, Stopped) end, Ledger}.
+    {fun() -> core_text:module(File, Module, {AllExports, Options#options.applications}, Stopped) end, fun() -> clause_places:text(File, Stopped) end, Ledger}.
 
 %% Which tables there are is known once it is known what is reached: where there are some, it is linked again, with the calls
 %% of ets as they have to be.

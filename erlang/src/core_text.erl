@@ -9,13 +9,18 @@
 %% A text of this many bytes is written without blanks at the beginning of its lines: few read it, and it is a fifth of it.
 -define(LARGE, 200000).
 
-module(File, Name, Exports, Definitions) ->
-    Head = ["module ", atom(Name), " [", joined([function_name(E) || E <- Exports]), "]\n    attributes []\n"],
+%% The module of a name, with these exports, which allows so many applications between two requests, or none where nothing is
+%% said of that.
+module(File, Name, {Exports, Applications}, Definitions) ->
+    Head = ["module ", atom(Name), " [", joined([function_name(E) || E <- Exports]), "]\n    attributes [", allowing(Applications), "]\n"],
     Indented = unicode:characters_to_binary([Head, [definition(File, 4, D) || D <- Definitions], "end\n"]),
     case byte_size(Indented) > ?LARGE of
         true -> [Head, [definition(File, -?LARGE, D) || D <- Definitions], "end\n"];
         false -> Indented
     end.
+
+allowing(none) -> "";
+allowing(Number) -> [atom(explore_applications), " = [", integer_to_list(Number), "]"].
 
 definition(File, Indent, #definition{name = Name, origin = Origin, code = #c_fun{vars = Vars, body = Body}}) ->
     [function_name(Name), " =\n  fun (", joined([variable(V) || V <- Vars]), ") ->",

@@ -22,8 +22,8 @@ key({Key, _, _, _}) -> Key.
 
 events({_, _, #{events := Events}, _}) -> Events.
 
-%% How long a schedule is. A deadlock is there after the last end, which is an error of as many events.
-length_of({_, Identity, _, _} = Error) -> {length(events(Error)), element(1, Identity) =:= deadlock}.
+%% How long a schedule is. A deadlock, and what is unread, is there after the last end, which is an error of as many events.
+length_of({_, Identity, _, _} = Error) -> {length(events(Error)), lists:member(element(1, Identity), [deadlock, unread_messages])}.
 
 %% The first cause of an error, with why it follows: {Key, Why}. It is itself one where Why is none. The roots of errors with
 %% shorter schedules are known.

@@ -5,11 +5,14 @@
 %% another file than the source. The module that is made has a name of its own, so that it takes the place of no module
 %% of the machine.
 -module(report_instrument).
--export([module/3, read/1, name/0, first/0]).
+-export([module/3, read/1, name/0, first/0, allowed/0]).
 
 %% The name of the module that is made, and that of its function which is what the first process runs.
 name() -> '$played'.
 first() -> '$first'.
+
+%% The name of the function of that module which says how many applications it allows between two requests.
+allowed() -> '$allowed'.
 
 %% The name of the module that a text spells, what its first process runs, and its code; or why there is none. The places of its
 %% functions are those of clause_places.
@@ -73,7 +76,16 @@ made(Core, Name, Places) ->
     First = cerl:c_fname(first(), 0),
     Main = cerl:c_fun([], cerl:c_apply(cerl:c_fname(main, 0), [])),
     Functions = [{Var, function(cerl:var_name(Var), played(Fun, Name), Name, Places)} || {Var, Fun} <- cerl:module_defs(Core)],
-    cerl:c_module(cerl:abstract(name()), [First | cerl:module_exports(Core)], [], [{First, Main} | Functions]).
+    Allowed = cerl:c_fname(allowed(), 0),
+    Number = cerl:c_fun([], cerl:abstract(allowed(Core))),
+    cerl:c_module(cerl:abstract(name()), [First, Allowed | cerl:module_exports(Core)], [], [{First, Main}, {Allowed, Number} | Functions]).
+
+%% How many applications a module allows between two requests (docs/LANGUAGE.md, "Evaluation"): the number that the first
+%% attribute says of those that say one, or else 10,000.
+allowed(Core) ->
+    Said = [N || {Name, Value} <- cerl:module_attrs(Core), cerl:concrete(Name) =:= explore_applications,
+                 [N] <- [cerl:concrete(cerl:fold_literal(Value))], is_integer(N), N >= 1, N =< 1000000],
+    hd(Said ++ [10000]).
 
 %% A function that chooses what a computed call means (erlang/README.md) tells the machine when it begins, and when it has
 %% its value; a function of the source which clause of it runs.

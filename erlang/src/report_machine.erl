@@ -20,9 +20,8 @@
 -define(PATIENCE, 30000).
 -define(GREATEST_HEAP, 20000000).
 
-%% The limits of the explorer (docs/LANGUAGE.md, "Evaluation"): how many applications a process makes between two
-%% requests, how many nodes a term has, and how many bits an integer has beside its sign.
--define(APPLICATIONS, 10000).
+%% The limits of the explorer (docs/LANGUAGE.md, "Evaluation"): how many nodes a term has, and how many bits an integer has
+%% beside its sign. How many applications a process makes between two requests is said by the module.
 -define(NODES, 10000).
 -define(BITS, 63).
 
@@ -129,6 +128,7 @@ perform(Boss, Start, {Own, Named}) ->
     put('$events', Own),
     put('$named', Named),
     put('$applied', 0),
+    put('$allowed', (report_instrument:name()):(report_instrument:allowed())()),
     ended(try begin_with(Start) of _ -> {{atom, normal}, none}
           catch Class:Reason:Stack -> {reason(Class, of_real(Reason)), source_of(Stack)}
           end).
@@ -275,8 +275,9 @@ awaits(_, _) -> ok.
 %% as there may be since its last request.
 applied(Place, Arguments) ->
     [built(Place, Argument) || Argument <- Arguments],
+    Allowed = get('$allowed'),
     case {get('$applied'), get('$events')} of
-        {?APPLICATIONS, [#event{number = Number, deed = runaway} | _]} -> met(Number, applications, place(Place));
+        {Allowed, [#event{number = Number, deed = runaway} | _]} -> met(Number, {applications, Allowed}, place(Place));
         {Count, _} -> put('$applied', Count + 1)
     end.
 

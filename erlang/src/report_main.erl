@@ -1,10 +1,11 @@
 %% From the files of an exploration to what people read.
 %%
-%% The folder of the exploration has the report of the program (`report`), the transcripts of its findings
-%% (`transcripts/1`, `transcripts/2` ..), the module (`module.core`), which has the lines of its source as annotations,
-%% and where it was converted what makes its verdict doubtful (`doubts`), and where its functions and their clauses are
+%% The folder of the exploration has the report of the program as terms (`report`), or the transcript of a schedule, the
+%% module (`module.core`), which has the lines of its source as annotations, and where it was converted what makes its verdict doubtful (`doubts`), and where its functions and their clauses are
 %% (`places`). Where signals took any time it may have the report
-%% of the schedules in which they arrive at once (`prompt`).
+%% of the schedules in which they arrive at once (`prompt`). Where a search stopped early without an error, and random
+%% schedules show some, `report` is of these, and that of the search is there too (`before`); where they show none, theirs
+%% is (`sample`).
 -module(report_main).
 -export([main/1]).
 -include("report.hrl").
@@ -24,8 +25,11 @@ main([Folder, Source, Delivery, Drawings, Page | Options]) ->
 
 is_asked(Option, #work{options = Options}) -> lists:member(Option, Options).
 
-%% Compiles a small module, so that what does it is loaded before it is asked for: until then there is nothing else to do.
-load() -> {ok, _, _, _} = report_instrument:module("module 'm' ['main'/0] attributes [] 'main'/0 = fun () -> 'ok' end", "m.erl", #{}).
+%% Compiles a small module and reads a small report, so that what does it is loaded before it is asked for: until then there is
+%% nothing else to do.
+load() ->
+    _ = report_reader:report("{explored,0,at_once,{states,1,0}}.\n{counts,0,0,0}.\n{result,clean,all}.\n"),
+    {ok, _, _, _} = report_instrument:module("module 'm' ['main'/0] attributes [] 'main'/0 = fun () -> 'ok' end", "m.erl", #{}).
 
 %% Does what the lines of standard input ask for: first, if at all, the spelling of terms, and at last a report.
 asked(Work) ->
@@ -86,7 +90,7 @@ spelling(Text, Module) ->
 %% ---- one schedule
 
 replayed(Work) ->
-    Told = told(Work, read(filename:join(Work#work.folder, "report"))),
+    Told = played(Work, report_reader:transcript(read(filename:join(Work#work.folder, "report")))),
     print(order(Work, replay, Told)),
     draw(Work, "replay", report_story:schedule(maps:get(events, Told)), replay, Told),
     disagreements([Told]).
@@ -94,28 +98,40 @@ replayed(Work) ->
 %% ---- an exploration
 
 explored(Work, Coverage, Sums) ->
-    {Reach, All, Last} = report_reader:report(read(filename:join(Work#work.folder, "report"))),
-    {Findings, Stops, Deadlocks} = report_unread:sorted(All, fun(Place) -> report_reader:transcript(transcript(Work, Place)) end),
+    {First, All, Below, Last} = report_reader:report(read(filename:join(Work#work.folder, "report"))),
+    {Reach, Random} = reaches(Work, First),
+    Found = list_to_tuple(Below),
+    {Findings, Stops, Deadlocks} = report_unread:sorted(All, fun(Place) -> element(1, element(Place, Found)) end),
     Prompt = prompt(Work),
     {Errors, Others} = lists:partition(fun(#finding{kind = Kind}) -> Kind =:= error end,
-                                       [finding(Work, Place, Finding, Prompt) || {Place, Finding} <- Findings]),
+                                       [finding(Work, element(Place, Found), Finding, Prompt) || {Place, Finding} <- Findings]),
     Groups = grouped(Errors, is_asked("unfold", Work)),
     Each = [{Number, Identity} || {Cause, Followers} <- Groups, #finding{number = Number, identity = Identity} <- [Cause | firsts(Followers)]],
     Races = races(Work, [Cause || {Cause, _} <- Groups], {Each, [Identity || #finding{kind = normal, identity = Identity} <- Others], hd(Coverage) =:= "all"}),
-    Head = report_unread:head(Stops, report_text:head(Work#work.source, Work#work.delivery, Coverage, Reach)),
+    Head = report_unread:head(Stops, report_text:head(Work#work.source, Work#work.delivery, Coverage, Reach, Random)),
     print(Head),
     Shown = [error(Work, Cause, Followers, Each, Race) || {{Cause, Followers}, Race} <- lists:zip(Groups, Races)],
     Briefs = [report_text:brief(title(Other), Other#finding.schedule, Other#finding.told) || Other <- Others],
     Reached = [unread(Stop) || Stop <- Stops],
     Folded = length(lists:append([Followers || {_, Followers} <- Groups])),
-    Told = report_text:sums(Sums, report_unread:sums(Findings, Stops, Last)),
-    Tail = [Briefs, Reached, report_text:tail(Work#work.delivery, Coverage, Reach, Told, Folded),
+    Told = report_text:sums(Sums, Work#work.delivery, report_unread:sums(Findings, Stops, Last)),
+    Tail = [Briefs, Reached, report_text:tail(Work#work.delivery, Coverage, Reach, Random, Told, Folded),
             report_unread:below(Stops, Deadlocks), report_text:doubts(doubts(Work))],
     print(Tail),
     [page(Work, {Head, Tail}, Shown) || Work#work.page =/= ""],
-    disagreements([One || #finding{told = One} <- Errors ++ Others] ++ [told(Work, transcript(Work, Place)) || {_, Place, _} <- Stops]).
+    disagreements([One || #finding{told = One} <- Errors ++ Others] ++ [played(Work, element(1, element(Place, Found))) || {_, Place, _} <- Stops]).
 
-transcript(#work{folder = Folder}, Place) -> read(filename:join([Folder, "transcripts", integer_to_list(Place)])).
+%% How far the search came, and what random schedules say beside it: {errors, Depth, Runs}, where the report is of these,
+%% {nothing, Depth, Runs}, or none.
+reaches(#work{folder = Folder}, {random, Depth, Runs}) ->
+    {Reach, _, _, _} = report_reader:report(read(filename:join(Folder, "before"))),
+    {Reach, {errors, Depth, Runs}};
+reaches(#work{folder = Folder}, Reach) ->
+    File = filename:join(Folder, "sample"),
+    case filelib:is_file(File) of
+        true -> {{random, Depth, Runs}, _, _, _} = report_reader:report(read(File)), {Reach, {nothing, Depth, Runs}};
+        false -> {Reach, none}
+    end.
 
 %% The order of events, as lines or as a diagram.
 order(Work, Finding, Told) ->
@@ -131,19 +147,18 @@ doubts(#work{folder = Folder}) ->
     File = filename:join(Folder, "doubts"),
     [Line || filelib:is_file(File), Line <- string:split(read(File), "\n", all), Line =/= ""].
 
-%% What schedules show in which signals arrive at once: the texts of the errors, or any where these were not explored to
+%% What schedules show in which signals arrive at once: what the errors are, or any where these were not explored to
 %% their end.
 prompt(#work{folder = Folder}) ->
     File = filename:join(Folder, "prompt"),
     case filelib:is_file(File) of
-        true -> {_, All, _} = report_reader:report(read(File)), [Identity || {_, _, Identity, _} <- All];
+        true -> {_, All, _, _} = report_reader:report(read(File)), [Identity || {_, _, Identity, _} <- All];
         false -> any
     end.
 
-finding(Work, Place, {Kind, Number, Identity, Schedule}, Prompt) ->
-    File = filename:join([Work#work.folder, "transcripts", integer_to_list(Place)]),
-    Told = (told(Work, read(File)))#{waits => report_reader:waits(read(File ++ ".waits"))},
-    #finding{kind = Kind, number = Number, identity = report_reader:identity(Identity), schedule = Schedule, told = Told,
+finding(Work, {Events, Waits}, {Kind, Number, Identity, Schedule}, Prompt) ->
+    Told = (played(Work, Events))#{waits => Waits},
+    #finding{kind = Kind, number = Number, identity = Identity, schedule = Schedule, told = Told,
              overtakes = Prompt =/= any andalso not lists:member(Identity, Prompt)}.
 
 %% The errors in groups, each that has a transcript with those that follow from it, {Cause, [{Follower, Why}]}. They are
@@ -165,7 +180,7 @@ title(#finding{kind = Kind, number = Number, identity = Identity}) ->
 
 %% An error with all that leads to it, and a line for each that follows from it: printed, and as a page has it.
 error(Work, #finding{number = Number, identity = Identity, told = Told} = Error, Followers, Each, Race) ->
-    Notes = [report_text:overtakes(Error#finding.overtakes), report_text:limit(report_story:limit(Told)),
+    Notes = [report_text:overtakes(Error#finding.overtakes), report_text:limit(report_story:limit(Told), is_converted(Work)),
              report_text:timeouts(report_story:timeouts(Told), is_converted(Work)), report_text:race(Race),
              report_text:schedule(Error#finding.schedule),
              report_text:earlier(report_story:earlier(Identity, Each, maps:get(events, Told)))],
@@ -175,13 +190,11 @@ error(Work, #finding{number = Number, identity = Identity, told = Told} = Error,
     Drawing = [drawing(Work, title(Error), report_rows:rows(Identity, Told), Told) || Work#work.page =/= ""],
     {Number, title(Error), Notes, Told, Below, Drawing}.
 
-%% Whether the module was converted, so that --after-timeout may be given.
+%% Whether the module was converted, so that --after-timeout and --applications may be given.
 is_converted(#work{source = Source}) -> filename:extension(Source) =/= ".core".
 
 %% All that is shown of a transcript: its events, their places, and what the processes are; to that come, of a finding, the
 %% processes that wait with what is in their mailboxes.
-told(Work, Text) -> played(Work, report_reader:transcript(Text)).
-
 played(Work, Events) ->
     Played = case Work#work.module of
         none -> #{lines => #{}, stands => #{}, limits => #{}, times => #{}, timed => [], differs => []};

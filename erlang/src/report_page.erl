@@ -43,7 +43,7 @@ contents(Errors) ->
 %% ---- an error
 
 section({Error, Title, Notes, #{events := Events, places := Places, waits := Waits} = Told, Below, Drawing}, Sources) ->
-    %% (of a deadlock it is not the last event that counts, but who waits)
+    %% (of a deadlock or unread messages it is not the last event that counts, but who waits)
     Final = case Waits of [] -> length(Events); _ -> none end,
     ["<section>\n<h2 id=\"", error_key(Error), "\">", escaped(Title), "</h2>\n", block(Notes), "<table>\n",
      [event(Error, Event, Final, maps:get(Event#event.number, Places, none), Sources) || Event <- Events],

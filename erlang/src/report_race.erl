@@ -30,7 +30,9 @@
 %% what it has to do with the second one. This is {Event, Thing, Run}, where the run is that of the error, `own`, or another one, by
 %% its events. Instead is the number of an error that comes in the place of this one, or none; Own has the events of the run of
 %% the error to its end. Known is {Errors, Normal, IsWhole}: the errors of the report, {Number, Identity}, the identities of what is
-%% taken as normal, and whether these are all that any schedule shows. Delivery and Replay are those of report_course.
+%% taken as normal, and whether these are all that any schedule shows. Delivery and Replay are those of report_course. Of unread
+%% messages there is none: what is left in the mailboxes of a run is not followed.
+race({unread_messages, _}, _, _, _) -> none;
 race(Identity, {Events, Timed}, {Errors, Normal, IsWhole}, {Delivery, Replay}) ->
     case report_course:followed([], [], report_course:new(Events), {Delivery, Replay, fun(_) -> false end}) of
         Fault when is_atom(Fault) -> none;

@@ -45,13 +45,14 @@ delivered(Deed) when is_tuple(Deed) ->
         _ -> plain
     end.
 
-waiting({deadlock, Names}, Told) ->
+waiting({Kind, Names}, Told) when Kind =:= deadlock; Kind =:= unread_messages ->
     [#row{number = none, column = Name, kind = turn, text = flat(report_text:waits(Name, Told)), mark = waits,
           place = report_text:stands(Name, Told)} || Name <- Names];
 waiting(_, _) -> [].
 
-%% The last event is what a finding is about, and of a deadlock who waits; a schedule that was asked for has none.
+%% The last event is what a finding is about, and of a deadlock or unread messages who waits; a schedule that was asked for has
+%% none.
 last_marked(replay, Rows) -> Rows;
-last_marked({deadlock, _}, Rows) -> [Row#row{last = Row#row.mark =:= waits} || Row <- Rows];
+last_marked({Kind, _}, Rows) when Kind =:= deadlock; Kind =:= unread_messages -> [Row#row{last = Row#row.mark =:= waits} || Row <- Rows];
 last_marked(_, []) -> [];
 last_marked(_, Rows) -> lists:droplast(Rows) ++ [(lists:last(Rows))#row{last = true}].

@@ -52,7 +52,7 @@ shown(_) -> [].
 limit(#{events := []}) -> none;
 limit(#{events := Events, limits := Limits}) -> limit(lists:last(Events), Events, Limits).
 
-limit(#event{number = Number, deed = runaway}, _, Limits) -> maps:get(Number, Limits, {applications, none});
+limit(#event{number = Number, deed = runaway}, _, Limits) -> maps:get(Number, Limits, {{applications, none}, none});
 limit(#event{who = {From, _}, deed = {exit, Reason, {ends, Reason}}}, Events, Limits) ->
     Causes = [Number || #event{number = Number, who = Who, deed = {ends, Of}} <- Events, Who =:= From, Of =:= Reason],
     case [maps:get(Number, Limits) || Number <- Causes, maps:is_key(Number, Limits)] of

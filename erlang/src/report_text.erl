@@ -1,7 +1,7 @@
 %% The report for people.
 -module(report_text).
 -export([call/3, who/1, deed/1, identity/1, place/1, role/2, waits/2, stands/2]).
--export([head/4, sums/2, tail/5, doubts/1, schedule/1, limit/1, timeouts/2, race/1, earlier/1, overtakes/1, follower/2, transcript/3, brief/3]).
+-export([head/5, sums/3, tail/6, doubts/1, schedule/1, limit/2, timeouts/2, race/1, earlier/1, overtakes/1, follower/2, transcript/3, brief/3]).
 -include("report.hrl").
 
 -define(GREATEST_COLUMN, 76).
@@ -73,6 +73,7 @@ fate(Fate) -> atom_to_list(Fate).
 %% What a finding is.
 identity({ends, Name, Reason}) -> [Name, " ends ", report_term:text(Reason)];
 identity({deadlock, Names}) -> ["deadlock of ", lists:join(" ", Names)];
+identity({unread_messages, Names}) -> ["unread messages of ", lists:join(" ", Names)];
 identity({runaway, Name}) -> [Name, " runs away"];
 identity({refusal, Name, Request, Deed}) -> [Name, " request ", integer_to_list(Request), " ", deed(Deed)].
 
@@ -95,8 +96,11 @@ place({File, Line}) -> [File, ":", integer_to_list(Line)].
 
 %% ---- the report
 
-%% The first line: what was explored.
-head(Source, Delivery, Coverage, Reach) -> [Source, ": ", explored(Coverage, of_delivery(Delivery), Reach), "\n"].
+%% The first line: what was explored, or which random schedules the errors are of.
+head(Source, Delivery, _, _, {errors, Depth, Runs}) -> [Source, ": ", random(Depth, Runs), of_delivery(Delivery), "\n"];
+head(Source, Delivery, Coverage, Reach, _) -> [Source, ": ", explored(Coverage, of_delivery(Delivery), Reach), "\n"].
+
+random(Depth, Runs) -> [many(Runs, "random schedules"), " of at most ", steps(Depth)].
 
 explored(["all" | _], Of, {complete, _, Count, What}) -> ["all schedules", Of, ", ", many(Count, What)];
 explored(_, Of, {complete, Depth, Count, What}) -> ["all schedules of at most ", steps(Depth), Of, ", ", many(Count, What)];
@@ -112,24 +116,36 @@ steps(Count) -> many(Count, "steps").
 many("1", What) -> ["1 ", lists:droplast(What)];
 many(Count, What) -> [Count, " ", What].
 
-%% The sums without what is taken as normal, where that is nothing and the words of the command asked for none.
-sums("normal", Last) -> Last;
-sums("plain", [Counts, Result]) -> [lists:append(string:replace(Counts, ", taken as normal 0", "")), Result].
+%% How many errors count, how many refusals there are, and what more is counted; and the result, which is about schedules that deliver
+%% signals so. What is taken as normal is counted where it is something, or the words of the command asked for it.
+sums(Told, Delivery, {{Errors, Refusals, Normal}, Unread, Result}) ->
+    More = [{", taken as normal ", Normal} || Told =:= "normal" orelse Normal > 0] ++ [{", not read ", Unread} || Unread =/= none],
+    Counts = [{"errors ", Errors}, {", refusals ", Refusals} | More],
+    [lists:append([What ++ integer_to_list(Count) || {What, Count} <- Counts]), ["result: ", result(Result, of_delivery(Delivery))]].
 
-%% The last lines: how many errors and refusals there are, and the result, as the program prints them; in between how many
-%% errors have no transcript; and below these what was not explored, where something was not.
-tail(Delivery, Coverage, Reach, [Counts, Result], Folded) ->
-    ["\n", Counts, "\n", folded(Folded), result(Result), "\n", unexplored(Coverage, of_delivery(Delivery), Reach, Counts), delays(Delivery)].
+result({nothing_found, none}, _) -> "nothing found";
+result({Result, none}, _) -> atom_to_list(Result);
+result({Result, all}, Of) -> [atom_to_list(Result), ", all schedules", Of];
+result({Result, {depth, Depth}}, _) -> [atom_to_list(Result), " to depth ", integer_to_list(Depth)].
+
+%% The last lines: how many errors and refusals there are, and the result, as the program has them; in between how many
+%% errors have no transcript; and below these what was not explored, where something was not, and what random schedules
+%% say of that.
+tail(Delivery, Coverage, Reach, Random, [Counts, Result], Folded) ->
+    Of = of_delivery(Delivery),
+    ["\n", Counts, "\n", folded(Folded), Result, "\n", unexplored(Coverage, Of, Reach, before(Random, Counts)), sampled(Random), delays(Delivery)].
+
+%% How many errors the search found: none, where random schedules were followed after it.
+before({errors, _, _}, _) -> "errors 0, ";
+before(_, Counts) -> Counts.
+
+sampled(none) -> "";
+sampled({nothing, Depth, Runs}) -> [random(Depth, Runs), " were followed too, and none shows an error\n"];
+sampled({errors, _, _}) -> "the errors are those of random schedules, and others may show more\n".
 
 folded(0) -> "";
 folded(1) -> "1 of the errors follows from another one (--unfold shows its events)\n";
 folded(Count) -> [integer_to_list(Count), " of the errors follow from others (--unfold shows their events)\n"].
-
-result(Result) ->
-    case string:split(Result, ", all prompt schedules") of
-        [Begin, ""] -> [Begin, ", all schedules", of_delivery("at-once")];
-        _ -> Result
-    end.
 
 delays("at-once") -> "schedules in which signals arrive later were not explored (--any-delay)\n";
 delays("any-delay") -> "".
@@ -171,15 +187,29 @@ doubts(Lines) -> [["but: ", Line, "\n"] || Line <- Lines].
 %% A schedule as the words with which it is shown again.
 schedule(Schedule) -> ["  --replay \"", Schedule, "\"\n"].
 
-%% That an error is there for a limit of the explorer (docs/LANGUAGE.md, "Evaluation"), and where that was met.
-limit(none) -> "";
-limit({Limit, Place}) -> ["  this is a limit of the explorer, not of Erlang: ", limit_in_words(Limit), where(Place), "\n"].
+%% That an error is there for a limit of the explorer (docs/LANGUAGE.md, "Evaluation"), and where that was met; with the
+%% option that allows more, where the module was converted and there is more.
+limit(none, _) -> "";
+limit({Limit, Place}, IsConverted) ->
+    ["  this is a limit of the explorer, not of Erlang: ", limit_in_words(Limit), where(Place),
+     ["; --applications N allows more" || IsConverted, may_grow(Limit)], "\n"].
 
-limit_in_words(applications) ->
-    "a process may call functions of its module 10,000 times before it sends, receives or asks for anything";
+may_grow({applications, Allowed}) -> Allowed < 1000000;
+may_grow(_) -> false.
+
+limit_in_words({applications, Allowed}) ->
+    ["a process may call functions of its module ", times(Allowed), " before it sends, receives or asks for anything"];
 limit_in_words(nodes) -> "a term may have 10,000 nodes, which are its numbers, atoms, tuples, list cells and so on";
 limit_in_words(bits) -> "an integer may have 64 bits";
 limit_in_words(some) -> "a term may have 10,000 nodes, and an integer 64 bits".
+
+%% (none where the machine does not take the module)
+times(none) -> "only so many times";
+times(1) -> "once";
+times(Number) -> [in_thousands(Number), " times"].
+
+in_thousands(Number) when Number < 1000 -> integer_to_list(Number);
+in_thousands(Number) -> [in_thousands(Number div 1000), io_lib:format(",~3..0w", [Number rem 1000])].
 
 where(none) -> "";
 where({library, Module}) -> [" (in ", Module, ")"];
@@ -236,7 +266,7 @@ follows({left, [Name]}) -> ["since ", Name, " has ended"];
 follows({left, Names}) -> ["since ", lists:join(", ", lists:droplast(Names)), " and ", lists:last(Names), " have ended"].
 
 %% A transcript: what the processes are, each event with its place, or a line for several, and who waits for ever where it is a
-%% deadlock.
+%% deadlock or of unread messages.
 transcript(Finding, #{events := Events, places := Places} = Told, HasSteps) ->
     Shown = case HasSteps of true -> Events; false -> report_calls:folded(Events, Told) end,
     Width = lists:max([length(who(Who)) || Who <- waiters(Finding) ++ [Who || #event{who = Who} <- Events]]),
@@ -244,7 +274,7 @@ transcript(Finding, #{events := Events, places := Places} = Told, HasSteps) ->
     Lines = [event(One, {Counted, Width}, Places) || One <- Shown],
     [cast(Told), in_columns(Lines ++ waiting(Finding, {Counted, Width}, Told))].
 
-waiters({deadlock, Names}) -> Names;
+waiters({Kind, Names}) when Kind =:= deadlock; Kind =:= unread_messages -> Names;
 waiters(_) -> ["P"].
 
 cast(#{events := Events, roles := Roles}) ->
@@ -266,7 +296,7 @@ who({From, To}) -> From ++ ">" ++ To;
 who(Name) -> Name.
 
 %% Who waits where for ever, and with which messages that it does not take.
-waiting({deadlock, Names}, {Counted, Width}, Told) ->
+waiting({Kind, Names}, {Counted, Width}, Told) when Kind =:= deadlock; Kind =:= unread_messages ->
     [{[lists:duplicate(Counted + 4, $\s), string:pad(Name, Width), "  ", waits(Name, Told)], stands(Name, Told)} || Name <- Names];
 waiting(_, _, _) -> [].
 

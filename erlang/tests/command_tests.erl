@@ -36,7 +36,7 @@ files() ->
 
 %% {Status, what standard output has to have in it (or none), standard error}
 cases() ->
-    Usage = "usage: convert.escript FILE.erl|FILE.beam [FILE|FOLDER ..] [-pa FOLDER] [--entry [m:]f/0] [--after-timeout MS] [--strict] [--tests] [--notes]"
+    Usage = "usage: convert.escript FILE.erl|FILE.beam [FILE|FOLDER ..] [-pa FOLDER] [--entry [m:]f/0] [--after-timeout MS] [--applications N] [--strict] [--tests] [--notes]"
             " [--doubts FILE] [--places FILE] [--env APPLICATION.KEY=TERM] [-I DIR] [-D NAME[=VALUE]]\n",
     [{"a module", "good.erl", {0, "module 'good' ['main'/0]", ""}},
      {"the tests of a module", "tested.erl --tests", {0, "last_test\nmade_test_\nfirst_test\n", ""}},
