@@ -163,7 +163,7 @@ call(Tree, Name) ->
     Module = atom_of(cerl:call_module(Tree)),
     Function = atom_of(cerl:call_name(Tree)),
     Arguments = cerl:call_args(Tree),
-    case is_request(Module, Function, length(Arguments)) of
+    case known_calls:is_request(Module, Function, length(Arguments)) of
         true ->
             What = [place(Tree), cerl:abstract(Module), cerl:abstract(Function), cerl:make_list(Arguments)],
             kept(ask(cerl:get_ann(Tree), ask, What));
@@ -182,15 +182,6 @@ atom_of(Tree) ->
         true -> cerl:atom_val(Tree);
         false -> none
     end.
-
-%% The calls of processes and tables: those that a process does not answer by itself.
-is_request(ets, _, _) -> true;
-is_request(erlang, Function, Arity) ->
-    lists:member({Function, Arity}, [
-        {spawn, 3}, {spawn_link, 3}, {spawn_monitor, 3}, {'!', 2}, {send, 2}, {exit, 2}, {link, 1}, {unlink, 1},
-        {monitor, 2}, {demonitor, 1}, {demonitor, 2}, {process_flag, 2}, {register, 2}, {unregister, 1}, {whereis, 1},
-        {is_process_alive, 1}, {make_ref, 0}]);
-is_request(_, _, _) -> false.
 
 ask(Notes, Function, Arguments) ->
     cerl:ann_c_call(Notes, cerl:abstract(report_machine), cerl:abstract(Function), Arguments).
