@@ -23,7 +23,7 @@ compile(Here, Work) ->
     Library = lists:append([library(File) || File <- libraries(Here)]),
     ok = file:write_file(filename:join(Work, "library.terms"), term_to_binary(maps:from_list(Library))).
 
-%% What begins with report_ belongs to another script.
+%% What begins with report_ belongs to another script, which compiles known_calls for itself too.
 modules(Here) -> [File || File <- filelib:wildcard(filename:join(Here, "src/*.erl")), not lists:prefix("report_", filename:basename(File))].
 libraries(Here) -> filelib:wildcard(filename:join(Here, "library/*.erl")).
 
