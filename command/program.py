@@ -5,6 +5,7 @@ import contextlib
 import os
 import re
 import subprocess
+import sys
 import tty
 from collections.abc import Mapping
 from dataclasses import dataclass
@@ -15,6 +16,7 @@ from .children import ROOT, child, status_of
 from .ending import NO_INPUT, NO_PROGRAM, STANDARD_ERROR, WRONG_WORDS, Ended, complain, say
 
 LAUNCHER = ROOT / "schedule_explorer"
+PACKED = ROOT / "packed" / "schedule_explorer"
 # What a refusal of the module, or of the words, begins with.
 REFUSAL = re.compile(rb"^(input|error): ", re.M)
 FAULT = re.compile(rb"input:.* at ([0-9]+)", re.S)
@@ -34,7 +36,7 @@ class Program:
     """The program, with the module that it reads at each run, and the file that this was converted from, if it was."""
 
     def __init__(self, environment: Mapping[str, str], module: Path, source: Optional[str]):
-        self.name = environment.get("EXPLORER") or str(LAUNCHER)
+        self.name = environment.get("EXPLORER") or str(_built() or LAUNCHER)
         self.module, self.source = module, source
         if not os.path.isfile(self.name) or not os.access(self.name, os.X_OK):
             raise Ended(NO_PROGRAM, f"there is no program {self.name}")
@@ -74,6 +76,16 @@ class Program:
             complain(b"%s: %s%s of the Core module that --core prints\n" % (os.fsencode(self.source), refusal, place))
         elif refusal:
             complain(refusal + b"\n")
+
+
+def _built() -> Optional[Path]:
+    """The program that the launcher would run, which is looked for once and not at each run; none where it has to be built."""
+    if PACKED.is_file():
+        return PACKED
+    sys.path.append(str(ROOT / "tools"))
+    from programs import CHECKED, PROVED
+
+    return PROVED.present() or CHECKED.present()
 
 
 def _of_words(fault: str) -> str:
