@@ -17,6 +17,7 @@ from .ending import NO_INPUT, NO_PROGRAM, STANDARD_ERROR, WRONG_WORDS, Ended, co
 
 LAUNCHER = ROOT / "schedule_explorer"
 PACKED = ROOT / "packed" / "schedule_explorer"
+TOOLS = ROOT / "tools"
 # What a refusal of the module, or of the words, begins with.
 REFUSAL = re.compile(rb"^(input|error): ", re.M)
 FAULT = re.compile(rb"input:.* at ([0-9]+)", re.S)
@@ -82,7 +83,9 @@ def _built() -> Optional[Path]:
     """The program that the launcher would run, which is looked for once and not at each run; none where it has to be built."""
     if PACKED.is_file():
         return PACKED
-    sys.path.append(str(ROOT / "tools"))
+    if not (TOOLS / "programs.py").is_file():
+        return None
+    sys.path.append(str(TOOLS))
     from programs import CHECKED, PROVED
 
     return PROVED.present() or CHECKED.present()
