@@ -16,7 +16,7 @@ from .ending import NO_PROGRAM, Ended, end_by_signals, say, show
 from .exploring import Words, explore, explore_promptly, sample_after, words_for
 from .help_text import HELP
 from .junit import suite_of_errors, suite_of_tests, write_junit
-from .program import LAUNCHER, Program
+from .program import LAUNCHER, Program, look_for_program
 from .reporter import Reporter, reporter
 from .telling import report_of, show_raw, show_text, tell_replay
 from .testing import explore_tests, status_of_tests
@@ -75,6 +75,7 @@ def work(request: Request) -> int:
 @contextlib.contextmanager
 def begun(request: Request) -> Iterator[tuple[Path, Optional[Reporter]]]:
     """The Core module, and the process that makes the report, in a folder of its own, which is gone at the end."""
+    look_for_program(os.environ)
     with tempfile.TemporaryDirectory(prefix="explore-") as name, reporter(request, Path(name)) as waiting:
         yield convert(request, Path(name)), waiting
 

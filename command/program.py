@@ -2,10 +2,12 @@
 from __future__ import annotations
 
 import contextlib
+import functools
 import os
 import re
 import subprocess
 import sys
+import threading
 import tty
 from collections.abc import Mapping
 from dataclasses import dataclass
@@ -79,6 +81,13 @@ class Program:
             complain(refusal + b"\n")
 
 
+def look_for_program(environment: Mapping[str, str]) -> None:
+    """Begins to look for the program that was built, which takes as long as reading all sources, while other work is done."""
+    if not environment.get("EXPLORER"):
+        threading.Thread(target=_built, daemon=True).start()
+
+
+@functools.lru_cache(maxsize=None)
 def _built() -> Optional[Path]:
     """The program that the launcher would run, which is looked for once and not at each run; none where it has to be built."""
     if PACKED.is_file():
