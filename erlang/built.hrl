@@ -10,6 +10,17 @@ built(Here, Part, Compile) ->
     true = code:add_patha(Folder),
     Folder.
 
+%% (not each script that has this file calls these)
+-compile({nowarn_unused_function, [load/3, is_of_report/1]}).
+
+%% Loads these modules, and all of the folder whose names are taken, by as many threads as there are processors, and not each
+%% where it is first called. One that another release of Erlang/OTP does not have changes nothing.
+load(Folder, Takes, Others) ->
+    Names = [filename:basename(File, ".beam") || File <- filelib:wildcard(filename:join(Folder, "*.beam"))],
+    code:ensure_modules_loaded([list_to_atom(Name) || Name <- Names, Takes(Name)] ++ Others).
+
+is_of_report(Name) -> lists:prefix("report_", Name).
+
 out(Own, Here) ->
     case can_write(Own) of
         true -> Own;

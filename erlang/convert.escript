@@ -8,8 +8,14 @@
 main(Arguments) ->
     Here = filename:dirname(filename:absname(escript:script_name())),
     Built = built(Here, "converter", fun(Work) -> compile(Here, Work) end),
+    load(Built, fun(Name) -> not is_of_report(Name) end, of_the_compiler()),
     {ok, Library} = file:read_file(filename:join(Built, "library.terms")),
     halt(converter:main(Arguments ++ headers(Here), binary_to_term(Library))).
+
+%% Up to Core Erlang it runs these modules.
+of_the_compiler() ->
+    [compile, epp, erl_scan, erl_parse, erl_lint, erl_bifs, erl_expand_records, v3_core, sys_core_fold, sys_core_alias, cerl, cerl_clauses,
+     cerl_trees, core_lib, sets, sofs, digraph, digraph_utils].
 
 %% Where EUnit is not installed its header is one of this folder.
 headers(Here) ->
@@ -21,10 +27,11 @@ headers(Here) ->
 compile(Here, Work) ->
     [{ok, _} = compile:file(File, [report_errors, {outdir, Work}]) || File <- modules(Here)],
     Library = lists:append([library(File) || File <- libraries(Here)]),
-    ok = file:write_file(filename:join(Work, "library.terms"), term_to_binary(maps:from_list(Library))).
+    true = code:add_patha(Work),
+    ok = file:write_file(filename:join(Work, "library.terms"), term_to_binary(packed_functions:pack(maps:from_list(Library)))).
 
 %% What begins with report_ belongs to another script, which compiles known_calls for itself too.
-modules(Here) -> [File || File <- filelib:wildcard(filename:join(Here, "src/*.erl")), not lists:prefix("report_", filename:basename(File))].
+modules(Here) -> [File || File <- filelib:wildcard(filename:join(Here, "src/*.erl")), not is_of_report(filename:basename(File))].
 libraries(Here) -> filelib:wildcard(filename:join(Here, "library/*.erl")).
 
 %% The functions of one file of the library: their names, as 'lists:map'/2, and their code.

@@ -1,39 +1,43 @@
 %% What of OTP's behaviours asks the machine for what the explorer does not have, in the place of the function that asks: the
-%% rest of these modules is taken as it is installed. Nothing is logged, there is one node, and a process keeps no dictionary.
+%% rest of these modules is taken as it is installed. Nothing is logged, and there is one node.
 -module(otp_functions).
 -compile([export_all, nowarn_export_all]).
 
-%% ---- proc_lib: '$ancestors' and '$initial_call' are in no dictionary, and a crash is not reported
+%% ---- proc_lib
 
+%% A process does not know what it is registered as, so '$ancestors' of its children has its pid.
 'proc_lib:get_my_name'() -> self().
-'proc_lib:get_ancestors'() -> [].
 
 %% Names for arguments that are not known would be atoms that no program has.
 'proc_lib:make_dummy_args'(0, Names) -> Names;
 'proc_lib:make_dummy_args'(_, Names) -> proc_lib:'names for arguments'(Names).
 
-'proc_lib:init_p'(_, _, F) when is_function(F) -> 'proc_lib begins'(F, []).
-'proc_lib:init_p'(_, _, M, F, A) when is_atom(M), is_atom(F), is_list(A) -> 'proc_lib applies'(M, F, A).
-'proc_lib:wake_up'(M, F, A) -> 'proc_lib applies'(M, F, A).
-
-'proc_lib begins'(F, []) ->
+%% The name that Erlang gives a fun is not known, so there is no '$initial_call'.
+'proc_lib:init_p'(Parent, Ancestors, F) when is_function(F) ->
+    put('$ancestors', [Parent | Ancestors]),
     try F()
-    catch Class:Reason -> 'proc_lib ends'(Class, Reason)
+    catch Class:Reason -> 'proc_lib:exit_p'(Class, Reason, [])
     end.
 
-'proc_lib applies'(M, F, A) ->
-    try apply(M, F, A)
-    catch Class:Reason -> 'proc_lib ends'(Class, Reason)
-    end.
+%% As OTP has it. Its own function has the names of behaviours as values, so that computed calls would reach all of these.
+'proc_lib:trans_init'(gen, init_it, [gen_server, _, _, supervisor = Behaviour, {_, Module, _}, _]) -> {Behaviour, Module, 1};
+'proc_lib:trans_init'(gen, init_it, [gen_server, _, _, _, supervisor = Behaviour, {_, Module, _}, _]) -> {Behaviour, Module, 1};
+'proc_lib:trans_init'(gen, init_it, [gen_server, _, _, supervisor_bridge = Behaviour, [Module | _], _]) -> {Behaviour, Module, 1};
+'proc_lib:trans_init'(gen, init_it, [gen_server, _, _, _, supervisor_bridge = Behaviour, [Module | _], _]) -> {Behaviour, Module, 1};
+'proc_lib:trans_init'(gen, init_it = Function, [gen_event = Behaviour | _]) -> {Behaviour, Function, 6};
+'proc_lib:trans_init'(gen, init_it, [_, _, _, Module, _, _]) when is_atom(Module) -> {Module, init, 1};
+'proc_lib:trans_init'(gen, init_it, [_, _, _, _, Module | _]) when is_atom(Module) -> {Module, init, 1};
+'proc_lib:trans_init'(M, F, A) -> {M, F, length(A)}.
 
-'proc_lib ends'(error, Reason) -> exit({Reason, []});
-'proc_lib ends'(exit, Reason) -> exit(Reason);
-'proc_lib ends'(throw, Reason) -> exit({{nocatch, Reason}, []}).
+%% No crash is reported. The report would have names of arguments too.
+'proc_lib:exit_p'(error, Reason, _) -> exit({Reason, []});
+'proc_lib:exit_p'(exit, Reason, _) -> exit(Reason);
+'proc_lib:exit_p'(throw, Reason, _) -> exit({{nocatch, Reason}, []}).
 
 %% The stack of a process that hibernates is not dropped, but it ends where the function returns. That one begins at once, and
 %% not with the next message, so a server that hibernates is suspended as another one.
 'erlang:hibernate'(M, F, A) -> apply(M, F, A), exit(normal).
-'proc_lib:hibernate'(M, F, A) -> 'proc_lib applies'(M, F, A), exit(normal).
+'proc_lib:hibernate'(M, F, A) -> proc_lib:wake_up(M, F, A), exit(normal).
 'sys:handle_system_msg'(Message, From, Parent, Module, Debug, Misc, _) -> sys:handle_system_msg(Message, From, Parent, Module, Debug, Misc).
 
 %% ---- gen: a process has its name where whereis/1 says so, and a reply goes to the process, not to an alias. One that comes
@@ -127,7 +131,6 @@
 %% ---- nothing is written
 
 'logger:allow'(_, _) -> false.
-'proc_lib:crash_report'(_, _, _, _) -> ok.
 'gen_server:error_info'(_, _, _, _, _, _, _, _) -> ok.
 'gen_statem:error_info'(_, _, _, _, _, _, _) -> ok.
 'gen_event:report_error'(_, _, _, _, _) -> ok.

@@ -77,9 +77,13 @@
 'random:uniform'(N) when is_integer(N), N >= 1 -> 1.
 'random:uniform_s'(N, {_, _, _} = State) when is_integer(N), N >= 1 -> {1, State}.
 'random:seed0'() -> {3172, 9814, 20125}.
-'random:seed'() -> 'random:seed0'().
+'random:seed'() ->
+    case put(random_seed, 'random:seed0'()) of
+        undefined -> 'random:seed0'();
+        Seed -> Seed
+    end.
 'random:seed'({A, B, C}) -> 'random:seed'(A, B, C).
-'random:seed'(A, B, C) when is_integer(A), is_integer(B), is_integer(C) -> undefined.
+'random:seed'(A, B, C) -> put(random_seed, {abs(A) rem 30268 + 1, abs(B) rem 30306 + 1, abs(C) rem 30322 + 1}).
 
 %% ---- the node, and who takes what is written
 

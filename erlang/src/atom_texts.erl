@@ -16,7 +16,8 @@ complete(Definitions) ->
     end.
 
 %% The atoms that the explorer makes by itself, which this table has before it is completed.
-made(#{{'text of atom', 1} := #c_fun{body = #c_case{clauses = Clauses}}}) ->
+made(Library) ->
+    #c_fun{body = #c_case{clauses = Clauses}} = packed_functions:function({'text of atom', 1}, Library),
     [Atom || #c_clause{pats = [#c_literal{val = Atom}]} <- Clauses].
 
 is_table(Name) -> Name =:= {'text of atom', 1} orelse Name =:= {'atom of text', 1}.

@@ -12,7 +12,7 @@ usage() ->
     "usage: convert.escript FILE.erl|FILE.beam [FILE|FOLDER ..] [-pa FOLDER] [--entry [m:]f/0] [--after-timeout MS] [--applications N] [--strict] [--tests] [--notes]"
     " [--doubts FILE] [--places FILE] [--env APPLICATION.KEY=TERM] [-I DIR] [-D NAME[=VALUE]]\n".
 
-%% Prints, and gives the status. Library is the folder's library, {Name, Arity} => function.
+%% Prints, and gives the status. Library is the folder's library (packed_functions.erl).
 main(Words, Library) ->
     ok = io:setopts(standard_io, [{encoding, utf8}]),
     ok = io:setopts(standard_error, [{encoding, utf8}]),
@@ -129,7 +129,8 @@ is_test(Name) -> lists:suffix("_test", Name) orelse lists:suffix("_test_", Name)
 %% {ok, File, Text, Places, Ledger}, where Text() is the text if nothing was refused, Places() that of the places of its
 %% functions, and File is the first one.
 convert(#options{files = Files, folders = Folders, entry = Entry, environment = Set, compiler = Words} = Options, Library0) ->
-    Library = maps:merge(Library0, environment:functions(modules:environment(Folders) ++ lists:reverse(Set))),
+    Configured = environment:functions(modules:environment(Folders) ++ lists:reverse(Set)),
+    Library = maps:merge(Library0, packed_functions:pack(Configured)),
     try
         case modules:open(Files, Folders, Words, named(Entry), linker:modules_of(Library)) of
             {error, Lines} -> {error, Lines};

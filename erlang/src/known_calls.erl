@@ -2,12 +2,12 @@
 %% that it answers them as the manuals say.
 -module(known_calls).
 
--export([is_known/3, is_request/3, is_plain/3, objection/3, unread/1]).
+-export([is_known/3, is_request/3, is_of_dictionary/3, is_plain/3, objection/3, unread/1]).
 
 -include("core.hrl").
 
 %% What a process answers by itself, or the world for it.
-is_known(M, F, A) -> is_pure(M, F, A) orelse is_request(M, F, A).
+is_known(M, F, A) -> is_pure(M, F, A) orelse is_of_dictionary(M, F, A) orelse is_request(M, F, A).
 
 is_pure(erlang, self, 0) -> true;
 is_pure(erlang, F, 1) ->
@@ -20,6 +20,11 @@ is_pure(erlang, F, 2) ->
 is_pure(erlang, F, 3) -> lists:member(F, [is_record, setelement]);
 is_pure(lists, F, A) -> lists:member({F, A}, [{reverse, 1}, {member, 2}, {append, 2}]);
 is_pure(_, _, _) -> false.
+
+%% Those of what a process keeps for itself, which no guard may make.
+is_of_dictionary(erlang, F, A) ->
+    lists:member({F, A}, [{put, 2}, {get, 0}, {get, 1}, {get_keys, 0}, {get_keys, 1}, {erase, 0}, {erase, 1}]);
+is_of_dictionary(_, _, _) -> false.
 
 is_request(erlang, F, A) ->
     lists:member({F, A}, [{spawn, 3}, {spawn_link, 3}, {spawn_monitor, 3}, {'!', 2}, {send, 2}, {exit, 2}, {link, 1},
@@ -40,7 +45,7 @@ is_plain(_, {ets, update_element, 3}, [_, _, Operation]) -> shape(Operation) =:=
 is_plain(_, {ets, info, 2}, [_, Item]) -> shape(Item) =/= computed;
 is_plain(_, _, _) -> false.
 
-%% What is wrong with the arguments of a request: {refuse, What, Text}, where Text says in a sentence that What is not
+%% What is wrong with the arguments of a call: {refuse, What, Text}, where Text says in a sentence that What is not
 %% read; {note, Text}; or none.
 objection(Own, {erlang, Spawn, 3}, [Module, Function, _]) when Spawn =:= spawn; Spawn =:= spawn_link; Spawn =:= spawn_monitor ->
     begins(Own, Module, Function);
@@ -67,6 +72,8 @@ objection(_, {ets, info, 2}, [_, #c_literal{val = Item}]) ->
         true -> none;
         false -> unknown(io_lib:format("ets:info(.., ~tw)", [Item]))
     end;
+objection(_, {erlang, F, A}, _) when F =:= get_keys; A =:= 0, F =:= get orelse F =:= erase ->
+    {note, io_lib:format("the list of erlang:~ts/~w is in the order of its keys here", [F, A])};
 objection(_, _, _) -> none.
 
 %% What is known of an operation on an object before it is computed.

@@ -110,7 +110,7 @@ closed([Key | Keys], Link) ->
     closed(Link2#link.uses ++ Keys, Link2).
 
 read({library, {F, A} = Name}, #link{library = Library} = Link) ->
-    {#definition{name = Name, code = maps:get(Name, Library), origin = library, home = lists:concat([F, "/", A])}, Link};
+    {#definition{name = Name, code = packed_functions:function(Name, Library), origin = library, home = lists:concat([F, "/", A])}, Link};
 read({in, Module, Name}, #link{modules = Modules} = Link) ->
     {Definition, Modules1} = modules:definition(Module, Name, Modules),
     {Definition#definition{origin = modules:origin(Module, Modules), home = home(Module, Definition, modules:main(Modules))},

@@ -117,27 +117,20 @@ primop(Name, Count) -> unread(io_lib:format("the operation ~w/~w", [Name, Count]
 call(M, F, Args, #scope{guarded = Guarded} = S) ->
     A = length(Args),
     case is_answered(M, F, A, S) of
-        false when Guarded -> unknown([shown_call(M, F, A), " in a guard"], "");
-        false -> unknown(shown_call(M, F, A), reason(M, F, A));
+        false when Guarded -> unknown([shown_call(M, F, A), " in a guard"]);
+        false -> unknown(shown_call(M, F, A));
         true -> objected(known_calls:objection(S#scope.module, {M, F, A}, Args))
     end.
 
 is_answered(M, F, A, #scope{module = Own, exports = Exports}) ->
     M =:= Own andalso lists:member({F, A}, Exports) orelse known_calls:is_known(M, F, A).
 
-unknown(What, Reason) -> [{What, [What, " is not known here", Reason]}].
+unknown(What) -> [{What, [What, " is not known here"]}].
 
 objected({refuse, What, Text}) -> [{What, Text}];
 objected(_) -> [].
 
 note(Text, #scope{origin = Origin, ledger = L} = S) -> S#scope{ledger = ledger:note("~ts", [Text], ledger:within(Origin, L))}.
-
-reason(erlang, F, A) ->
-    case lists:member({F, A}, [{put, 2}, {get, 1}, {get, 0}, {erase, 1}, {erase, 0}, {get_keys, 0}]) of
-        true -> "; the process dictionary is not modelled";
-        false -> ""
-    end;
-reason(_, _, _) -> "".
 
 shown_call(M, F, A) -> io_lib:format("~ts:~tw/~w", [M, F, A]).
 

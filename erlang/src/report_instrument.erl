@@ -1,9 +1,9 @@
 %% Makes of a Core module one that the machine can play with the answers of a transcript.
 %%
-%% Each call of processes and tables asks report_machine in its place, and each receive asks it for its message. The
-%% lines are those of the annotations on calls, receives and applications: [Line], or [Line, {file, File}] where it is
-%% another file than the source. The module that is made has a name of its own, so that it takes the place of no module
-%% of the machine.
+%% Each call of processes and tables asks report_machine in its place, and each receive asks it for its message. So do the
+%% calls of the process dictionary, since report_machine keeps there what it has to know of the process. The lines are
+%% those of the annotations on calls, receives and applications: [Line], or [Line, {file, File}] where it is another file
+%% than the source. The module that is made has a name of its own, so that it takes the place of no module of the machine.
 -module(report_instrument).
 -export([module/3, read/1, name/0, first/0, allowed/0]).
 
@@ -169,13 +169,17 @@ call(Tree, Name) ->
             kept(ask(cerl:get_ann(Tree), ask, What));
         false when Module =:= Name ->
             counted(Tree, Arguments, fun(Given) -> cerl:update_c_call(Tree, cerl:abstract(name()), cerl:call_name(Tree), Given) end);
-        false -> built(Tree)
+        false ->
+            case known_calls:is_of_dictionary(Module, Function, length(Arguments)) of
+                true -> built(Tree, ask(cerl:get_ann(Tree), keeps, [cerl:abstract(Function), cerl:make_list(Arguments)]));
+                false -> built(Tree, Tree)
+            end
     end.
 
 %% A call that its process answers by itself, with what it gives shown to the machine.
-built(Tree) ->
+built(Tree, Answered) ->
     Value = cerl:c_var('Built@'),
-    cerl:c_let([Value], Tree, cerl:c_seq(ask([], built, [place(Tree), Value]), Value)).
+    cerl:c_let([Value], Answered, cerl:c_seq(ask([], built, [place(Tree), Value]), Value)).
 
 atom_of(Tree) ->
     case cerl:is_c_atom(Tree) of

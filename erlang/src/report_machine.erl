@@ -4,7 +4,7 @@
 %% is. The machine is also a second witness: where it asks otherwise than the transcript says, that is reported.
 -module(report_machine).
 -export([load/1, play/2]).
--export([enters/1, leaves/0, runs/2, ask/4, wait/3, not_taken/0, applied/2, built/2, caught/2, raised/2]).
+-export([enters/1, leaves/0, runs/2, ask/4, wait/3, not_taken/0, keeps/2, applied/2, built/2, caught/2, raised/2]).
 -include("report.hrl").
 
 -record(played, {
@@ -128,6 +128,7 @@ perform(Boss, Start, {Own, Named}) ->
     put('$events', Own),
     put('$named', Named),
     put('$applied', 0),
+    put('$kept', []),
     put('$allowed', (report_instrument:name()):(report_instrument:allowed())()),
     ended(try begin_with(Start) of _ -> {{atom, normal}, none}
           catch Class:Reason:Stack -> {reason(Class, of_real(Reason)), source_of(Stack)}
@@ -207,6 +208,27 @@ not_taken() ->
     case get('$taken') of
         none -> ok;
         Event -> differ(Event, "does not take this message")
+    end.
+
+%% A call of the process dictionary. What the module keeps there is one entry of this process's own dictionary: the keys in
+%% their order, with their values.
+keeps(Function, Arguments) ->
+    {Value, Kept} = kept(Function, Arguments, get('$kept')),
+    put('$kept', Kept),
+    Value.
+
+kept(put, [Key, Value], Kept) -> {value_of(Key, Kept), orddict:store(Key, Value, Kept)};
+kept(get, [], Kept) -> {Kept, Kept};
+kept(get, [Key], Kept) -> {value_of(Key, Kept), Kept};
+kept(get_keys, [], Kept) -> {orddict:fetch_keys(Kept), Kept};
+kept(get_keys, [Value], Kept) -> {[Key || {Key, Of} <- Kept, Of =:= Value], Kept};
+kept(erase, [], Kept) -> {Kept, []};
+kept(erase, [Key], Kept) -> {value_of(Key, Kept), orddict:erase(Key, Kept)}.
+
+value_of(Key, Kept) ->
+    case orddict:find(Key, Kept) of
+        {ok, Value} -> Value;
+        error -> undefined
     end.
 
 caught(throw, Value) -> Value;

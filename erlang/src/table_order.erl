@@ -1,5 +1,6 @@
-%% Where the order of the objects of a set or a bag may matter: the real machine promises none, and here it is that of the
-%% keys. A walk is doubted unless what it gives is plainly used in a way that is the same in each order.
+%% Where the order of the objects of a set or a bag may matter, or that of what a process keeps for itself: the real machine
+%% promises none, and here it is that of the keys. A walk is doubted unless what it gives is plainly used in a way that is the
+%% same in each order.
 -module(table_order).
 
 -export([find/3]).
@@ -31,6 +32,10 @@ doubted({Place, Text}, Ledger) -> ledger:doubt(Place, Text, Ledger).
 
 walk_text({F, A}, {File, Line}) ->
     io_lib:format("a set or a bag is in the order of its keys here, and in Erlang ets:~ts/~w at ~ts:~w may give another order",
+                  [F, A, filename:basename(File), Line]).
+
+dictionary_text({F, A}, {File, Line}) ->
+    io_lib:format("a process dictionary is in the order of its keys here, and in Erlang erlang:~ts/~w at ~ts:~w may give another order",
                   [F, A, filename:basename(File), Line]).
 
 insert_text({F, A}, {File, Line}) ->
@@ -104,6 +109,10 @@ walked(#c_call{module = #c_literal{val = ets}, name = #c_literal{val = F}, args 
     IsInsert = (F =:= insert orelse F =:= insert_new) andalso is_turned(Args, S),
     Call = {F, length(Args)},
     S#scope{found = [{Place, walk_text(Call, Place)} || IsWalk] ++ [{Place, insert_text(Call, Place)} || IsInsert] ++ S#scope.found};
+walked(#c_call{module = #c_literal{val = erlang}, name = #c_literal{val = F}, args = Args}, Place, order, S) ->
+    Call = {F, length(Args)},
+    IsList = lists:member(Call, [{get, 0}, {get_keys, 0}, {get_keys, 1}, {erase, 0}]),
+    S#scope{found = [{Place, dictionary_text(Call, Place)} || IsList] ++ S#scope.found};
 walked(_, _, _, S) -> S.
 
 %% Whether objects of one key may come into a bag as a list, where the table may be something else too: of what is plainly a
@@ -243,12 +252,13 @@ is_list_of(#c_var{name = V}, Before) -> lists:member(V, Before);
 is_list_of(#c_cons{hd = Head, tl = Tail}, Before) -> is_without(Head, Before) andalso is_list_of(Tail, Before);
 is_list_of(_, _) -> false.
 
-%% An expression without steps that does not use these variables.
+%% An expression that does not use these variables, and neither steps nor what the process keeps for itself.
 is_without(Node, Names) ->
     Steps = core_tree:fold(fun(#c_apply{}, _) -> true;
                               (#c_receive{}, _) -> true;
                               (#c_call{module = #c_literal{val = erlang}, name = #c_literal{val = F}, args = Args}, Sum) ->
-                                   Sum orelse known_calls:is_request(erlang, F, length(Args));
+                                   Sum orelse known_calls:is_request(erlang, F, length(Args))
+                                       orelse known_calls:is_of_dictionary(erlang, F, length(Args));
                               (#c_call{}, _) -> true;
                               (_, Sum) -> Sum
                            end, false, Node),

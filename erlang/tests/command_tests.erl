@@ -12,7 +12,7 @@ all(Folder, Work) ->
 
 files() ->
     [{"good.erl", "-module(good).\n-export([main/0, other/0]).\nmain() -> self() ! x, receive x -> ok end.\nother() -> main().\n"},
-     {"bad.erl", "-module(bad).\n-export([main/0]).\nmain() -> {1.5, f(2)}.\nf(X) ->\n  put(a, X).\n"},
+     {"bad.erl", "-module(bad).\n-export([main/0]).\nmain() -> {1.5, f(2)}.\nf(X) ->\n  os:putenv(X, X).\n"},
      {"unused.erl", "-module(unused).\n-export([main/0]).\nmain() -> ok.\nf() -> receive X when X > 1.5 -> X end.\n"},
      {"none.erl", "-module(none).\n-export([none/0, other/0]).\nnone() -> ok.\nother() -> ok.\n"},
      {"exported.erl", "-module(exported).\n-export([main/0, go/0, by_name/1, called/0, as_fun/1, test/0]).\n"
@@ -22,6 +22,7 @@ files() ->
                       "f() -> ok.\ng(X) -> {X, 1.5}.\ntest() -> {1.5, f()}.\n"},
      {"tested.erl", "-module(tested).\n-include_lib(\"eunit/include/eunit.hrl\").\n"
                     "last_test() -> ?assertEqual(1, one()).\nmade_test_() -> [?_assert(true)].\none() -> 1.\nother_test(X) -> X.\nfirst_test() -> ok.\ntest_one() -> ok.\n"},
+     {"guarded.erl", "-module(guarded).\n-export([main/0]).\nmain() -> f(1).\nf(X) when X =:= get(a) -> X.\n"},
      {"wrong.erl", "-module(wrong).\n-export([main/0]).\nmain() -> x(.\n"},
      {"warned.erl", "-module(warned).\n-export([main/0]).\n-compile(warnings_as_errors).\nmain() -> X = 1, ok.\n"},
      {"sleeper.erl", "-module(sleeper).\n-export([main/0]).\nmain() -> timer:sleep(1).\n"},
@@ -32,7 +33,7 @@ files() ->
      {"part_refused.erl", "-module(part_refused).\n-export([main/0]).\n-include(\"refused.hrl\").\nmain() -> part().\n"},
      {"long.erl", ["-module(long).\n-export([main/0]).\nmain() ->\n", [["self() ! ", N, ", receive ", N, " -> ok end,\n"] || I <- lists:seq(1, 340), N <- [integer_to_list(I)]], "ok.\n"]},
      {"large.erl", ["-module(large).\n-export([main/0]).\nmain() -> \"", lists:duplicate(300000, $x), "\".\n"]},
-     {"refused.hrl", "\n\npart() ->\n  get(part).\n"}].
+     {"refused.hrl", "\n\npart() ->\n  os:getenv(\"PART\").\n"}].
 
 %% {Status, what standard output has to have in it (or none), standard error}
 cases() ->
@@ -60,15 +61,16 @@ cases() ->
      {"an include file's lines", "with.erl -D WORD=7", {0, "-| [4,{'file',[112,97,114,116,46,104,114,108]}] )", ""}},
      {"a macro", "with.erl -D WORD", {0, ",'true']", ""}},
      {"a macro with a value", "with.erl -D WORD=7 -I .", {0, ",7]", ""}},
-     {"notes", "bad.erl --strict --notes", {2, none, "bad.erl:3: floats are not read: 1.5 (in main/0)\nbad.erl:5: erlang:put/2 is not known here; the process dictionary is not modelled (in f/1)\n"}},
-     {"what is not read", "bad.erl", {0, "( apply 'not read'/1('not read: erlang:put/2 at bad.erl:5 (in f/1)') -| [5] )", ""}},
+     {"notes", "bad.erl --strict --notes", {2, none, "bad.erl:3: floats are not read: 1.5 (in main/0)\nbad.erl:5: os:putenv/2 is not known here (in f/1)\n"}},
+     {"what is not read", "bad.erl", {0, "( apply 'not read'/1('not read: os:putenv/2 at bad.erl:5 (in f/1)') -| [5] )", ""}},
      {"what it is made of", "bad.erl", {0, "'not read'/1 =\n  fun (Table) ->\n    do catch call 'ets':'lookup'(Table,'none')\n       receive\n       after 'infinity' ->\n         'ok'\nend", ""}},
-     {"where it is not read", "bad.erl --notes", {0, "'f'/1", "note: a process stops where it comes to a float at bad.erl:3 (in main/0)\nnote: a process stops where it comes to erlang:put/2 at bad.erl:5 (in f/1)\n"}},
+     {"where it is not read", "bad.erl --notes", {0, "'f'/1", "note: a process stops where it comes to a float at bad.erl:3 (in main/0)\nnote: a process stops where it comes to os:putenv/2 at bad.erl:5 (in f/1)\n"}},
      {"no stop where nothing is unread", "good.erl --notes", {0, "       after 'infinity' ->\n         'true' -| [3] )\nend\n", ""}},
-     {"refusals", "bad.erl --strict", {2, none, "bad.erl:3: floats are not read: 1.5 (in main/0)\nbad.erl:5: erlang:put/2 is not known here; the process dictionary is not modelled (in f/1)\n"}},
-     {"what is not read in an include file", "part_refused.erl", {0, "( apply 'not read'/1('not read: erlang:get/1 at refused.hrl:4 (in part/0)') -| [4,{'file',", ""}},
-     {"refusals in an include file", "part_refused.erl --strict", {2, none, "refused.hrl:4: erlang:get/1 is not known here; the process dictionary is not modelled (in part/0)\n"}},
+     {"refusals", "bad.erl --strict", {2, none, "bad.erl:3: floats are not read: 1.5 (in main/0)\nbad.erl:5: os:putenv/2 is not known here (in f/1)\n"}},
+     {"what is not read in an include file", "part_refused.erl", {0, "( apply 'not read'/1('not read: os:getenv/1 at refused.hrl:4 (in part/0)') -| [4,{'file',", ""}},
+     {"refusals in an include file", "part_refused.erl --strict", {2, none, "refused.hrl:4: os:getenv/1 is not known here (in part/0)\n"}},
      {"no Erlang", "wrong.erl", {2, none, "wrong.erl:3:13: syntax error before: '.'\nwrong.erl:2:2: function main/0 undefined\n"}},
+     {"the process dictionary in a guard", "guarded.erl", {2, none, "guarded.erl:4:17: illegal guard expression\n"}},
      {"warnings that are errors", "warned.erl", {2, none, "warned.erl:4:11: variable 'X' is unused\n"}},
      {"a second file that is not there", "good.erl absent.erl", {2, none, "absent.erl: no such file or directory\n"}},
      {"a module with the name of one of the library, given", "sleeper.erl timer.erl", {0, "'timer:sleep'/1 =\n  fun (_0) ->\n    {'own',_0}", ""}},

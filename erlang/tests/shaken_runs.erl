@@ -43,12 +43,15 @@ is_shaken(M, F, A) ->
 paused(Node) -> #c_seq{arg = core_tree:call([], ?MODULE, pause, []), body = Node}.
 
 pause() ->
-    case rand:uniform(6) of
-        1 -> erlang:yield();
-        2 -> timer:sleep(rand:uniform(4) - 1);
-        3 -> timer:sleep(1);
+    case chance(6) of
+        0 -> erlang:yield();
+        1 -> timer:sleep(chance(4));
+        2 -> timer:sleep(1);
         _ -> ok
     end.
+
+%% A number below this one. (rand would keep its state in the dictionary of the process, where the program finds it.)
+chance(N) -> erlang:phash2(make_ref(), N).
 
 %% What became of one run: {Ends, Waits}, where Ends is [{first | other, Reason}] of those that ended
 %% otherwise than normally, and Waits how many wait for ever, and whether the first one does. After Quiet milliseconds

@@ -1,5 +1,5 @@
 -- The calls that a process answers by itself: their names and the numbers of their arguments (Erlang reference manual, modules erlang and lists).
-use Rattle.std.specs.Prelude.{ℕ, Option, List, [], ◌∷◌, codes}
+use Rattle.std.specs.Prelude.{ℕ, Bool, true, false, Option, List, [], ◌∷◌, codes}
 use Rattle.core_calls.specs.Calls.{Signature, process_call, has_signature, first_with}
 use Rattle.core_calls.specs.declared.pure.PureCall.{PureCall}
 use Rattle.core_calls.specs.declared.pure.PureCall.TheVariants as calls
@@ -55,6 +55,13 @@ pure_signature calls.Without = process_call (codes "--") 2
 pure_signature calls.TupleToList = process_call (codes "tuple_to_list") 1
 pure_signature calls.ListToTuple = process_call (codes "list_to_tuple") 1
 pure_signature calls.OwnPid = process_call (codes "self") 0
+pure_signature calls.Put = process_call (codes "put") 2
+pure_signature calls.Get = process_call (codes "get") 1
+pure_signature calls.GetAll = process_call (codes "get") 0
+pure_signature calls.GetKeys = process_call (codes "get_keys") 0
+pure_signature calls.GetKeysOf = process_call (codes "get_keys") 1
+pure_signature calls.Erase = process_call (codes "erase") 1
+pure_signature calls.EraseAll = process_call (codes "erase") 0
 pure_signature calls.Error = process_call (codes "error") 1
 pure_signature calls.ErrorWith = process_call (codes "error") 2
 pure_signature calls.Exit = process_call (codes "exit") 1
@@ -67,8 +74,19 @@ pure_signature calls.AppendLists = list_call (codes "append") 2
 
 -- all of the calls, each once
 abbrev pub pure_calls : List PureCall
-pure_calls = calls.Add ∷ calls.Subtract ∷ calls.Multiply ∷ calls.Keep ∷ calls.Negate ∷ calls.Divide ∷ calls.Remainder ∷ calls.Absolute ∷ calls.BitAnd ∷ calls.BitOr ∷ calls.BitXor ∷ calls.BitNot ∷ calls.Equal ∷ calls.NotEqual ∷ calls.Same ∷ calls.NotSame ∷ calls.Less ∷ calls.AtMost ∷ calls.Greater ∷ calls.AtLeast ∷ calls.And ∷ calls.Or ∷ calls.Xor ∷ calls.Not ∷ calls.IsInteger ∷ calls.IsNumber ∷ calls.IsAtom ∷ calls.IsBoolean ∷ calls.IsTuple ∷ calls.IsList ∷ calls.IsPid ∷ calls.IsReference ∷ calls.IsFloat ∷ calls.IsBinary ∷ calls.IsRecord ∷ calls.Element ∷ calls.SetElement ∷ calls.TupleSize ∷ calls.Head ∷ calls.Tail ∷ calls.Length ∷ calls.Append ∷ calls.Without ∷ calls.TupleToList ∷ calls.ListToTuple ∷ calls.OwnPid ∷ calls.Error ∷ calls.ErrorWith ∷ calls.Exit ∷ calls.Throw ∷ calls.ModuleInfo ∷ calls.ModuleInfoItem ∷ calls.Reverse ∷ calls.Member ∷ calls.AppendLists ∷ []
+pure_calls = calls.Add ∷ calls.Subtract ∷ calls.Multiply ∷ calls.Keep ∷ calls.Negate ∷ calls.Divide ∷ calls.Remainder ∷ calls.Absolute ∷ calls.BitAnd ∷ calls.BitOr ∷ calls.BitXor ∷ calls.BitNot ∷ calls.Equal ∷ calls.NotEqual ∷ calls.Same ∷ calls.NotSame ∷ calls.Less ∷ calls.AtMost ∷ calls.Greater ∷ calls.AtLeast ∷ calls.And ∷ calls.Or ∷ calls.Xor ∷ calls.Not ∷ calls.IsInteger ∷ calls.IsNumber ∷ calls.IsAtom ∷ calls.IsBoolean ∷ calls.IsTuple ∷ calls.IsList ∷ calls.IsPid ∷ calls.IsReference ∷ calls.IsFloat ∷ calls.IsBinary ∷ calls.IsRecord ∷ calls.Element ∷ calls.SetElement ∷ calls.TupleSize ∷ calls.Head ∷ calls.Tail ∷ calls.Length ∷ calls.Append ∷ calls.Without ∷ calls.TupleToList ∷ calls.ListToTuple ∷ calls.OwnPid ∷ calls.Put ∷ calls.Get ∷ calls.GetAll ∷ calls.GetKeys ∷ calls.GetKeysOf ∷ calls.Erase ∷ calls.EraseAll ∷ calls.Error ∷ calls.ErrorWith ∷ calls.Exit ∷ calls.Throw ∷ calls.ModuleInfo ∷ calls.ModuleInfoItem ∷ calls.Reverse ∷ calls.Member ∷ calls.AppendLists ∷ []
 
 -- the call of these names and so many arguments, if there is one
 unfoldable pub pure_call_with : List ℕ → List ℕ → ℕ → Option PureCall
 pure_call_with module_name function_name arity = first_with (λ kind. has_signature module_name function_name arity (pure_signature kind)) pure_calls
+
+-- whether a call is one of the process dictionary, which no guard may make
+abbrev pub is_of_dictionary : PureCall → Bool
+is_of_dictionary calls.Put = true
+is_of_dictionary calls.Get = true
+is_of_dictionary calls.GetAll = true
+is_of_dictionary calls.GetKeys = true
+is_of_dictionary calls.GetKeysOf = true
+is_of_dictionary calls.Erase = true
+is_of_dictionary calls.EraseAll = true
+is_of_dictionary call = false

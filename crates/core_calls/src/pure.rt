@@ -1,14 +1,14 @@
 // The calls that a process answers by itself.
 ghost use Rattle.std.specs.Prelude.{◌≡◌};
 ghost use Rattle.core_calls.specs.Calls.{has_signature};
-ghost use Rattle.core_calls.specs.PureCalls.{pure_signature, pure_call_with};
+ghost use Rattle.core_calls.specs.PureCalls.{is_of_dictionary, pure_signature, pure_call_with};
 ghost use Rattle.core_calls.specs.inside.Signatures.{signature_of};
 
 use crate::signature::{Signature, list_call, process_call};
 
 /// A call that takes part in no exchange with the world: its value, or what it raises, depends on its arguments alone
 /// (Erlang reference manual, modules `erlang` and `lists`), except for `erlang:self/0`, which gives the pid of the
-/// process.
+/// process, and for the calls of the process dictionary, which give what earlier ones of the process have put there.
 #[derive(Clone, Copy, Debug, PartialEq, Eq, PartialOrd, Ord, Hash)]
 pub enum PureCall {
     /// `erlang:+/2`: the sum of two integers.
@@ -103,6 +103,20 @@ pub enum PureCall {
     ListToTuple,
     /// `erlang:self/0`: the pid of the process.
     OwnPid,
+    /// `erlang:put/2`: puts a value under a key of the process dictionary, and gives the one that was there.
+    Put,
+    /// `erlang:get/1`: the value under a key of the process dictionary.
+    Get,
+    /// `erlang:get/0`: the whole process dictionary.
+    GetAll,
+    /// `erlang:get_keys/0`: the keys of the process dictionary.
+    GetKeys,
+    /// `erlang:get_keys/1`: the keys of the process dictionary with a value.
+    GetKeysOf,
+    /// `erlang:erase/1`: removes a key from the process dictionary, and gives its value.
+    Erase,
+    /// `erlang:erase/0`: empties the process dictionary, and gives all of it.
+    EraseAll,
     /// `erlang:error/1`: raises an error.
     Error,
     /// `erlang:error/2`: raises an error; its second argument is not looked at.
@@ -124,7 +138,7 @@ pub enum PureCall {
 }
 
 /// Each of the calls once.
-pub const PURE_CALLS: [PureCall; 55] = [
+pub const PURE_CALLS: [PureCall; 62] = [
     PureCall::Add,
     PureCall::Subtract,
     PureCall::Multiply,
@@ -171,6 +185,13 @@ pub const PURE_CALLS: [PureCall; 55] = [
     PureCall::TupleToList,
     PureCall::ListToTuple,
     PureCall::OwnPid,
+    PureCall::Put,
+    PureCall::Get,
+    PureCall::GetAll,
+    PureCall::GetKeys,
+    PureCall::GetKeysOf,
+    PureCall::Erase,
+    PureCall::EraseAll,
     PureCall::Error,
     PureCall::ErrorWith,
     PureCall::Exit,
@@ -234,6 +255,13 @@ impl PureCall {
             PureCall::TupleToList => process_call("tuple_to_list", 1),
             PureCall::ListToTuple => process_call("list_to_tuple", 1),
             PureCall::OwnPid => process_call("self", 0),
+            PureCall::Put => process_call("put", 2),
+            PureCall::Get => process_call("get", 1),
+            PureCall::GetAll => process_call("get", 0),
+            PureCall::GetKeys => process_call("get_keys", 0),
+            PureCall::GetKeysOf => process_call("get_keys", 1),
+            PureCall::Erase => process_call("erase", 1),
+            PureCall::EraseAll => process_call("erase", 0),
             PureCall::Error => process_call("error", 1),
             PureCall::ErrorWith => process_call("error", 2),
             PureCall::Exit => process_call("exit", 1),
@@ -262,5 +290,22 @@ impl PureCall {
             .iter()
             .find(|kind| kind.has_signature(module_name, function_name, arity))
             .copied()
+    }
+
+    /// Whether the call is one of the process dictionary: it reads or changes what the process keeps there, and no guard
+    /// may make it.
+    pub fn is_of_dictionary(self) -> bool
+        ensures { result ≡ is_of_dictionary self }
+    {
+        matches!(
+            self,
+            PureCall::Put
+                | PureCall::Get
+                | PureCall::GetAll
+                | PureCall::GetKeys
+                | PureCall::GetKeysOf
+                | PureCall::Erase
+                | PureCall::EraseAll
+        )
     }
 }

@@ -5,6 +5,7 @@ use Rattle.core_tree.specs.Sameness.{bare_clause, bare_clauses, bare_tree, bare_
 use Rattle.core_tree.specs.Syntax.{Tree, ClauseTree, trees_of, clauses_of}
 use Rattle.term_core.specs.Meaning.{Meaning}
 use Rattle.term_core.specs.Term.{list_onto}
+use Rattle.core_pure_calls.specs.Dictionary.{Dictionary}
 use Rattle.core_stack.specs.Holes.{Hole, Wait, Purpose, scope, kept_in, hides, receive_on}
 use Rattle.core_stack.specs.Holes as holes
 use Rattle.core_stack.specs.Purposes as purposes
@@ -72,7 +73,7 @@ module _ (setting : Setting) where
   receive_bare : (cs : List ClauseTree) (action : Tree) (waits : Bool) (env : Environment) (s : State) → receive setting waits (clauses_of (map bare_clause cs)) (bare_tree action) env s ≡ receive setting waits (clauses_of cs) action env s
   receive_bare cs action waits env s =
       ap (λ r. receive setting waits r (bare_tree action) env s) (choices_bare cs)
-      ∙ (λ i. received waits (λ m. selects_bare setting (clauses_of cs) env m i) (λ m s'. clauses_bare setting (clauses_of cs) (m ∷ []) env s' i) (λ s'. tree_bare setting action env s' i) s.answers)
+      ∙ (λ i. received waits (λ m. selects_bare setting (clauses_of cs) env m i) (λ m s'. clauses_bare setting (clauses_of cs) (m ∷ []) env s' i) (λ s'. tree_bare setting action env s' i) s.dictionary s.answers)
 
   finish_bare : (p : Purpose) (env : Environment) (vs : List Meaning) (s : State) → finish setting (bare_purpose p) env vs s ≡ finish setting p env vs s
   finish_bare purposes.Tuple env vs s = refl
@@ -122,23 +123,23 @@ module _ (setting : Setting) where
   waiting_bare (holes.Kept bindings ∷ hs) waits s = refl
   waiting_bare (holes.Applied bindings ∷ hs) waits s = refl
 
-  pub standing_bare : (hs : List Hole) (t : Told) (answers : List Answered) → standing setting (bare_holes hs) t answers ≡ standing setting hs t answers
-  standing_bare hs (told.Call kind arguments) answers = ap request_of (through_bare hs _)
-  standing_bare hs (told.Receive waits) answers = ap request_of (waiting_bare hs waits (before answers))
-  standing_bare hs (told.End reason) answers = refl
-  standing_bare hs told.Runaway answers = refl
+  pub standing_bare : (hs : List Hole) (d : Dictionary) (t : Told) (answers : List Answered) → standing setting (bare_holes hs) d t answers ≡ standing setting hs d t answers
+  standing_bare hs d (told.Call kind arguments) answers = ap request_of (through_bare hs _)
+  standing_bare hs d (told.Receive waits) answers = ap request_of (waiting_bare hs waits (before d answers))
+  standing_bare hs d (told.End reason) answers = refl
+  standing_bare hs d told.Runaway answers = refl
 
 pub not_off : (b : Bool) → false ≡ not b → b ≡ true
 not_off true e = refl
 not_off false e = cc
 
--- machines of one module and one pid, at the same request with the same left to do
-pub are_one : (m n : Standing) → is_spent m ≡ false → is_spent n ≡ false → m.own ≡ n.own → m.told ≡ n.told → bare_holes m.holes ≡ bare_holes n.holes → module_in m ≡ module_in n → AreOne m n
-are_one m n lives others own told same modules = record {
+-- machines of one module, one pid and one dictionary, at the same request with the same left to do
+pub are_one : (m n : Standing) → is_spent m ≡ false → is_spent n ≡ false → m.own ≡ n.own → m.dictionary ≡ n.dictionary → m.told ≡ n.told → bare_holes m.holes ≡ bare_holes n.holes → module_in m ≡ module_in n → AreOne m n
+are_one m n lives others own kept told same modules = record {
   one_lives = lives;
   other_lives = others;
   asks = λ answers.
-      sym (standing_bare (setting_of m.program m.own) m.holes m.told answers)
-      ∙ (λ i. standing (setting_of (modules i) (own i)) (same i) (told i) answers)
-      ∙ standing_bare (setting_of n.program n.own) n.holes n.told answers;
+      sym (standing_bare (setting_of m.program m.own) m.holes m.dictionary m.told answers)
+      ∙ (λ i. standing (setting_of (modules i) (own i)) (same i) (kept i) (told i) answers)
+      ∙ standing_bare (setting_of n.program n.own) n.holes n.dictionary n.told answers;
 }

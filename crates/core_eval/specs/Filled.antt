@@ -5,6 +5,7 @@ use Rattle.term_core.specs.Meaning.{Meaning, Tuple as TupleOf, Nil, meanings_of}
 use Rattle.term_core.specs.Term.{list_onto}
 use Rattle.core_stack.specs.Holes.{Hole, Parts, Tail, Body, Second, Clauses, Guard, Receive, Try, Catch, Kept, Applied, Wait, scope, receive_on}
 use Rattle.core_stack.specs.Matching.{Environment, bound}
+use Rattle.core_pure_calls.specs.Dictionary.{Dictionary}
 use Rattle.core_stack.specs.Purposes.{Purpose}
 use Rattle.core_stack.specs.Purposes as purposes
 use Rattle.core_semantics.specs.Asked.{Asked, Answered}
@@ -49,9 +50,9 @@ abbrev pub waiting : Setting → Option Wait → Bool → State → Outcome
 waiting setting None waits s = Stops (asked.Receive waits (λ m. false))
 waiting setting (Some w) waits s = through setting w.below (receive setting waits (clauses_of w.clauses) w.action (scope w.below) s)
 
--- what a stack that waits at a request asks after these answers; an end and a runaway are final
-abbrev pub standing : Setting → List Hole → Told → List Answered → Asked
-standing setting holes (told.Call kind arguments) answers = request_of (through setting holes (called kind arguments (before answers)))
-standing setting holes (told.Receive waits) answers = request_of (waiting setting (receive_on holes) waits (before answers))
-standing setting holes (told.End reason) answers = asked.End reason
-standing setting holes told.Runaway answers = asked.Runaway
+-- what a stack that waits at a request, with this dictionary, asks after these answers; an end and a runaway are final
+abbrev pub standing : Setting → List Hole → Dictionary → Told → List Answered → Asked
+standing setting holes d (told.Call kind arguments) answers = request_of (through setting holes (called kind arguments (before d answers)))
+standing setting holes d (told.Receive waits) answers = request_of (waiting setting (receive_on holes) waits (before d answers))
+standing setting holes d (told.End reason) answers = asked.End reason
+standing setting holes d told.Runaway answers = asked.Runaway

@@ -13,6 +13,7 @@ use crate::receiving::take;
 use crate::request::{Answer, Request};
 use crate::run::run;
 use crate::selection::selects;
+use core_pure_calls::Dictionary;
 use core_stack::Stack;
 use core_tree::{Module, Receive};
 use std::alloc::{AllocError, Global};
@@ -26,6 +27,7 @@ pub struct Machine<'m> {
     program: &'m Module,
     pid: Pid,
     stack: Stack<'m>,
+    dictionary: Dictionary,
     request: Request,
     is_spent: bool,
 }
@@ -37,6 +39,7 @@ impl Drop for Machine<'_> {
             program: _,
             pid: _,
             stack: _,
+            dictionary: _,
             request: _,
             is_spent: _,
         } = self;
@@ -56,6 +59,7 @@ impl<'m> Model for Machine<'m> {
       program = m.program.now;
       own = m.pid;
       holes = m.stack;
+      dictionary = m.dictionary;
       told = told_by m.request;
       spent = m.is_spent;
     } };
@@ -63,7 +67,7 @@ impl<'m> Model for Machine<'m> {
 
 /// The process `pid` of the module, run to its first request: it begins with the function `function_name` of the module
 /// `module_name`, applied to the arguments (the dynamic semantics of Core Erlang 1.0.3; the Erlang manual,
-/// `erlang:spawn/3`). Where these name no function that the module exports, it is at the end `{'undef',[]}`; the first
+/// `erlang:spawn/3`), with an empty dictionary. Where these name no function that the module exports, it is at the end `{'undef',[]}`; the first
 /// process may begin with any function of the module, and is to begin with `main/0`. The arguments and the pid are
 /// taken over; the machine holds on to the module. `AllocError` if there is no memory for it.
 pub fn start<'m>(
@@ -81,12 +85,14 @@ pub fn start<'m>(
     let mut stack = Stack::new(alloc);
     let found = first_definition(program, &pid, module_name, function_name, &arguments)?;
     let control = begin(alloc, &mut stack, found, arguments)?;
-    let request = run(alloc, program, &pid, &mut stack, control)?;
+    let mut dictionary = Dictionary::new();
+    let request = run(alloc, program, &pid, &mut stack, &mut dictionary, control)?;
     stack.settle(alloc)?;
     Ok(Machine {
         program,
         pid,
         stack,
+        dictionary,
         request,
         is_spent: false,
     })
@@ -120,7 +126,14 @@ impl<'m> Machine<'m> {
             self.is_spent = false;
             return Ok(());
         };
-        self.request = run(alloc, self.program, &self.pid, &mut self.stack, control)?;
+        self.request = run(
+            alloc,
+            self.program,
+            &self.pid,
+            &mut self.stack,
+            &mut self.dictionary,
+            control,
+        )?;
         self.stack.settle(alloc)?;
         self.is_spent = false;
         Ok(())
@@ -156,8 +169,8 @@ impl<'m> Machine<'m> {
         }
     }
 
-    /// Whether two machines of one module wait at the same request with the same left to do, wherever its code is in the
-    /// text. It takes no memory. No machine is the same as one that is spent.
+    /// Whether two machines of one module wait at the same request with the same left to do and the same dictionary,
+    /// wherever their code is in the text. It takes no memory. No machine is the same as one that is spent.
     pub fn is_same(&self, other: &Machine<'_>) -> bool
         ensures { result ≡ true → module_in self.now ≡ module_in other.now → AreOne self.now other.now }
     {
@@ -173,18 +186,22 @@ impl<'m> Machine<'m> {
         if !self.request.is_same(&other.request) {
             return false;
         }
+        if !self.dictionary.is_same(&other.dictionary) {
+            return false;
+        }
         self.stack.is_same(&other.stack)
     }
 
-    /// Feeds a hasher with the request and what is left to do: the same for machines that are the same. It takes no
+    /// Feeds a hasher with the request, the dictionary and what is left to do: the same for machines that are the same. It takes no
     /// memory.
     pub fn feed<H: Hasher>(&self, state: &mut H) {
         self.request.feed(state);
+        self.dictionary.feed(state);
         self.stack.feed(state);
     }
 
     /// The same machine, or `AllocError` if there is no memory for it or the machine is spent. The two
-    /// share their frames and the request: a copy takes one step however deep the stack is.
+    /// share their frames, the dictionary and the request: a copy takes one step however deep the stack is.
     pub fn copy(&self, alloc: Global) -> Result<Machine<'m>, AllocError>
         ensures same { IfOk result (λ copied. copied ≡ self.now) }
         ensures spent { is_spent self.now ≡ true → IsErr result }
@@ -196,6 +213,7 @@ impl<'m> Machine<'m> {
             program: self.program,
             pid: self.pid.copy()?,
             stack: self.stack.copy(alloc)?,
+            dictionary: self.dictionary.copy()?,
             request: self.request.copy()?,
             is_spent: false,
         })

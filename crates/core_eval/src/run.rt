@@ -9,7 +9,7 @@ ghost use Rattle.core_semantics.specs.Evaluation.{Setting, State};
 ghost use Rattle.core_stack.specs.Holes.{Hole};
 ghost use Rattle.core_eval.specs.Filled.{standing};
 ghost use Rattle.core_eval.specs.Requests.{told_by};
-ghost use Rattle.core_eval.specs.inside.Steps.{AsksNext, going, halted, paused};
+ghost use Rattle.core_eval.specs.inside.Steps.{AsksNext, ComesTo, halted};
 
 use crate::allowed::allowed_by;
 use crate::build::single;
@@ -20,34 +20,37 @@ use crate::exception::end_of;
 use crate::leave::{leave, leave_raised, leave_with};
 use crate::pure::answer_call;
 use crate::request::Request;
+use core_pure_calls::Dictionary;
 use core_stack::Stack;
 use core_tree::Module;
 use std::alloc::{AllocError, Global};
 use std::sync::Arc;
 use term_core::{Pid, Term, Word};
 
-/// Runs the process with this pid to the next request or the end, from what is on top of the stack. Where one more application than
+/// Runs the process with this pid and this dictionary to the next request or the end, from what is on top of the stack. Where one more application than
 /// the module allows would be made since the start or the last answer, the request is a runaway.
 pub(crate) fn run<'m>(
     alloc: Global,
     program: &'m Module,
     own: &Pid,
     stack: &mut Stack<'m>,
+    dictionary: &mut Dictionary,
     control: Control<'m>,
 ) -> Result<Request, AllocError>
-    ensures { IfOk result (λ request. AsksNext (setting_of program.now own.now) stack.old control.entry stack.new (told_by request)) }
+    ensures { IfOk result (λ request.
+        AsksNext (setting_of program.now own.now) stack.old dictionary.old control.entry stack.new dictionary.new (told_by request)) }
 {
     let allowed = allowed_by(program.attributes.as_slice());
     let mut control = control;
     'applications: for _made in 0..allowed {
-        control = match advance(alloc, own, stack, control)? {
+        control = match advance(alloc, own, stack, dictionary, control)? {
             Pause::Halt(halt) => return request_at(alloc, halt),
             Pause::Application(function, arguments) => {
                 apply(alloc, program, stack, function, arguments)?
             }
         };
     }
-    match advance(alloc, own, stack, control)? {
+    match advance(alloc, own, stack, dictionary, control)? {
         Pause::Halt(halt) => request_at(alloc, halt),
         Pause::Application(_, _) => Ok(Request::Runaway),
     }
@@ -56,7 +59,7 @@ pub(crate) fn run<'m>(
 // The request of a process whose evaluation stops there: one that gives values ends normally.
 fn request_at(alloc: Global, halt: Halt) -> Result<Request, AllocError>
     ensures { IfOk result (λ request. (setting : Setting) (holes : List Hole) (s : State) →
-        standing setting holes (told_by request) s.answers ≡ request_of (halted setting holes halt s)) }
+        standing setting holes s.dictionary (told_by request) s.answers ≡ request_of (halted setting holes halt s)) }
 {
     Ok(match halt {
         Halt::Values(_values) => Request::End(Term::word(Word::Normal)),
@@ -66,16 +69,16 @@ fn request_at(alloc: Global, halt: Halt) -> Result<Request, AllocError>
     })
 }
 
-/// Runs the process with this pid to where it stops, or to the next application, from what is on top of the
-/// stack.
+/// Runs the process with this pid and this dictionary to where it stops, or to the next application, from what is on top
+/// of the stack.
 pub(crate) fn advance<'m>(
     alloc: Global,
     own: &Pid,
     stack: &mut Stack<'m>,
+    dictionary: &mut Dictionary,
     control: Control<'m>,
 ) -> Result<Pause<'m>, AllocError>
-    ensures { IfOk result (λ pause. (setting : Setting) → setting.own ≡ own.now → (s : State) →
-        paused setting stack.new pause s ≡ going setting stack.old control.entry s) }
+    ensures { IfOk result (λ pause. ComesTo own.now stack.old dictionary.old control.entry stack.new dictionary.new pause) }
 {
     let mut control = control;
     loop {
@@ -95,7 +98,9 @@ pub(crate) fn advance<'m>(
                 Some(frame) => leave_raised(alloc, stack, frame, class, reason)?,
                 None => return Ok(Pause::Halt(Halt::Raise(class, reason))),
             },
-            Control::Answer(kind, arguments) => answer_call(alloc, own, kind, arguments)?,
+            Control::Answer(kind, arguments) => answer_call(
+                alloc, own, dictionary, kind, arguments,
+            )?,
             Control::Ask(kind, arguments) => {
                 return Ok(Pause::Halt(Halt::Ask(kind, arguments)));
             }

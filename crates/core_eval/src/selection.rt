@@ -13,6 +13,7 @@ use crate::build::single;
 use crate::control::{Control, Halt, Pause};
 use crate::leave::is_true;
 use crate::run::advance;
+use core_pure_calls::Dictionary;
 use core_stack::{Bindings, Frame, Stack, fits, matches_each};
 use core_tree::{Clause, Expr, Patterns};
 use std::alloc::{AllocError, Global};
@@ -76,7 +77,7 @@ fn takes<'m>(
 }
 
 // Whether a guard gives `'true'`, with these variables on top of those in the scope of the stack. It is evaluated
-// apart, where it can neither ask for anything nor apply a function.
+// apart, where it can neither ask for anything nor apply a function, and sees an empty dictionary.
 fn holds<'m>(
     alloc: Global,
     own: &Pid,
@@ -90,7 +91,8 @@ fn holds<'m>(
     let mut apart = Stack::new(alloc);
     apart.push(Frame::Kept(stack.variables(alloc)?))?;
     apart.push(Frame::Kept(bindings))?;
-    let pause = advance(alloc, own, &mut apart, Control::Evaluate(guard))?;
+    let mut empty = Dictionary::new();
+    let pause = advance(alloc, own, &mut apart, &mut empty, Control::Evaluate(guard))?;
     Ok(gave_true(&pause))
 }
 

@@ -333,7 +333,7 @@ module _ (all : List Piece) (end : ℕ) where
 
   abbrev pub CalleeAt : ℕ → Callee → Type 0
   CalleeAt at (callees.World kind) = Place' at
-  CalleeAt at (callees.Pure kind) = Unit {0}
+  CalleeAt at (callees.Pure kind) = Place' at
   CalleeAt at (callees.Exported f) = Place' at × IsOne all (word at k.Call)
   CalleeAt at (callees.Defined f) = Place' at × Place' f.at
   CalleeAt at callees.MatchFail = Place' at
@@ -535,7 +535,7 @@ module _ (all : List Piece) (end : ℕ) where
 
   called_at : (own : List ℕ) (at : ℕ) (s : Signature) (c : Callee) → Place' at → IsOne all (word at k.Call) → Calls own s c → CalleeAt at c
   called_at own at s c p h calls_world = p
-  called_at own at s c p h calls_itself = tt
+  called_at own at s c p h calls_itself = p
   called_at own at s c p h (calls_export small new) = (p, h)
 
   operates_at : (at : ℕ) (t : List ℕ) (n : ℕ) (c : Callee) → Place' at → Operates t n c → CalleeAt at c

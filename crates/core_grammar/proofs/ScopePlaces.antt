@@ -74,7 +74,7 @@ module _ (all : List Piece) (end : ℕ) where
 
   calls : (x : Setting) (at : ℕ) (c : Callee) (f : ReadFault) → CalleeAt all end at c → MayNotCall x at c f → Stands f
   calls x at (callees.World kind) f h r = effect x at f h r
-  calls x at (callees.Pure kind) f h r = absurd r
+  calls x at (callees.Pure kind) f h r = effect x at f h r.1
   calls x at (callees.Exported d) f h (inl r) = moved f (UnsupportedCall at) r.1 h.1
   calls x at (callees.Exported d) f h (inr r) = effect x at f h.0 r
   calls x at (callees.Defined n) f h (inl r) = effect x at f h.0 r

@@ -1,3 +1,5 @@
 pub mod Numbers
 pub mod ListSteps
 pub mod Arguments
+pub mod Alike
+pub mod DictionaryLaws

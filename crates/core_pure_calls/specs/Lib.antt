@@ -5,6 +5,7 @@ pub mod Comparing
 pub mod Kinds
 pub mod Tuples
 pub mod Lists
+pub mod Dictionary
 pub mod Raising
 pub mod Calls
 pub mod Rows

@@ -4,12 +4,13 @@ use Rattle.core_calls.specs.declared.pure.PureCall.{PureCall}
 use Rattle.core_calls.specs.declared.pure.PureCall.TheVariants as calls
 use Rattle.term_core.specs.Meaning.{Meaning, Int, Atom, Tuple, Cons, meanings_of}
 use Rattle.core_pure_calls.specs.Answers.{Answer, Value, error, wrong_argument}
-use Rattle.core_pure_calls.specs.Calls.{answer_of}
+use Rattle.core_pure_calls.specs.Calls.{answer_of, kept_by}
+use Rattle.core_pure_calls.specs.Dictionary.{Dictionary}
 use Rattle.core_pure_calls.specs.Lists.{list_of}
 
--- what a call answers to these arguments
+-- what a call answers to these arguments, where the dictionary is empty
 abbrev pub Row : PureCall → List Meaning → Answer → Type 0
-Row call arguments told = answer_of [] call arguments ≡ told
+Row call arguments told = answer_of [] [] call arguments ≡ told
 
 -- three small integers
 abbrev one : Meaning
@@ -53,3 +54,30 @@ TupleRows =
     × Row calls.SetElement (two ∷ Tuple (meanings_of (three ∷ [])) ∷ two ∷ []) wrong_argument
     × Row calls.IsRecord (Tuple (meanings_of (Atom (codes "a") ∷ one ∷ [])) ∷ Atom (codes "a") ∷ two ∷ []) (Value (Atom (codes "true")))
     × Row calls.IsRecord (Tuple (meanings_of (one ∷ one ∷ [])) ∷ Atom (codes "a") ∷ two ∷ []) (Value (Atom (codes "false")))
+
+-- what a call answers where the dictionary has this, and what it has afterwards
+abbrev pub DictionaryRow : Dictionary → PureCall → List Meaning → Answer → Dictionary → Type 0
+DictionaryRow before call arguments told after = (answer_of [] before call arguments ≡ told) × (kept_by call arguments before ≡ after)
+
+abbrev a : Meaning
+a = Atom (codes "a")
+
+abbrev b : Meaning
+b = Atom (codes "b")
+
+abbrev none : Meaning
+none = Atom (codes "undefined")
+
+-- `put` gives what was there, and keys stay in their order; a key that is erased is gone, and `erase/0` leaves nothing
+abbrev pub DictionaryRows : Type 0
+DictionaryRows =
+    DictionaryRow [] calls.Put (b ∷ one ∷ []) (Value none) ((b, one) ∷ [])
+    × DictionaryRow ((b, one) ∷ []) calls.Put (a ∷ two ∷ []) (Value none) ((a, two) ∷ (b, one) ∷ [])
+    × DictionaryRow ((a, two) ∷ (b, one) ∷ []) calls.Put (a ∷ three ∷ []) (Value two) ((a, three) ∷ (b, one) ∷ [])
+    × DictionaryRow ((a, two) ∷ (b, one) ∷ []) calls.Get (b ∷ []) (Value one) ((a, two) ∷ (b, one) ∷ [])
+    × DictionaryRow ((a, two) ∷ []) calls.Get (b ∷ []) (Value none) ((a, two) ∷ [])
+    × DictionaryRow ((a, two) ∷ (b, one) ∷ []) calls.Erase (a ∷ []) (Value two) ((b, one) ∷ [])
+    × DictionaryRow ((a, two) ∷ []) calls.Erase (b ∷ []) (Value none) ((a, two) ∷ [])
+    × DictionaryRow ((a, two) ∷ []) calls.EraseAll [] (Value (list_of (Tuple (meanings_of (a ∷ two ∷ [])) ∷ []))) []
+    × DictionaryRow ((a, one) ∷ (b, one) ∷ []) calls.GetKeysOf (one ∷ []) (Value (list_of (a ∷ b ∷ []))) ((a, one) ∷ (b, one) ∷ [])
+    × DictionaryRow ((a, two) ∷ (b, one) ∷ []) calls.GetKeysOf (one ∷ []) (Value (list_of (b ∷ []))) ((a, two) ∷ (b, one) ∷ [])

@@ -4,6 +4,7 @@
 mod arithmetic;
 pub mod calls;
 mod compare;
+pub mod dictionary;
 mod kinds;
 pub mod laws;
 mod lists;
@@ -12,4 +13,5 @@ mod raise;
 mod tuples;
 
 pub use calls::answer;
+pub use dictionary::Dictionary;
 pub use outcome::{Class, Outcome};

@@ -5,6 +5,7 @@ use denote.Ref.{Bor}
 use Rattle.std.specs.Map.{lookup}
 use Rattle.std.proofs.lemmas.List.{map-append, append-nil, at_drop_all, take-append-le, length-map, length-take, get_or-take, get_or-map}
 use Rattle.std.proofs.lemmas.Option.{get_or_from_slice_get}
+use Rattle.core_calls.specs.PureCalls.{is_of_dictionary}
 use Rattle.core_tokens.specs.declared.fault.ReadFault.{ReadFault}
 use Rattle.core_tokens.specs.declared.fault.ReadFault.TheVariants.{DuplicateFunction, NoFunction, NoMain, EffectInGuard, Memory}
 use Rattle.core_tree.specs.declared.module.Definition.{Definition}
@@ -60,7 +61,7 @@ guard_agrees x y same = (same.0, same.1, refl)
 
 callee_agrees : (x y : Setting) → Agrees x y → (at : ℕ) (c : Callee) → check_callee x at c ≡ check_callee y at c
 callee_agrees x y same at (callees.World kind) = ap (λ (b : Bool). if b then Err (EffectInGuard at) else Ok tt) same.2
-callee_agrees x y same at (callees.Pure kind) = refl
+callee_agrees x y same at (callees.Pure kind) = ap (λ (b : Bool). if is_of_dictionary kind then (if b then Err (EffectInGuard at) else Ok tt) else Ok tt) same.2
 callee_agrees x y same at (callees.Exported f) = rw (same.1 f, same.2) refl
 callee_agrees x y same at (callees.Defined n) = rw (same.0 n.function, same.2) refl
 callee_agrees x y same at callees.MatchFail = ap (λ (b : Bool). if b then Err (EffectInGuard at) else Ok tt) same.2

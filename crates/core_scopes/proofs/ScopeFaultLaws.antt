@@ -1,6 +1,7 @@
 -- What each fault of scopes and names says is true.
 use Rattle.std.proofs.Common.{◌≡◌, ℕ, Bool, true, false, cond, List, [], ◌∷◌, ◌++◌, Result, Ok, Err, refl, sym, ap, inl, inr, ◌⊎◌}
 use Rattle.std.specs.Prelude.{Contains}
+use Rattle.core_calls.specs.PureCalls.{is_of_dictionary}
 use Rattle.core_tokens.specs.declared.fault.ReadFault.{ReadFault}
 use Rattle.core_tokens.specs.declared.fault.ReadFault.TheVariants.{Unbound, DuplicateVariable, DuplicateFunction, NoFunction, UnsupportedCall, EffectInGuard, NoMain}
 use Rattle.core_tree.specs.Syntax.{Mention, Function, NamedAt, Callee, Tree, Trees, Clauses, DefinitionTree, ModuleTree}
@@ -71,9 +72,13 @@ effect x at f e =
       | inr g ↦ absurd cc
     ]
 
+own : (x : Setting) (at : ℕ) (b : Bool) (f : ReadFault) → cond b (check_effect x at) (Ok tt) ≡ Err f → (b ≡ true) × HasEffect x at f
+own x at true f e = (refl, effect x at f e)
+own x at false f e = absurd cc
+
 calls : (x : Setting) (at : ℕ) (c : Callee) (f : ReadFault) → check_callee x at c ≡ Err f → MayNotCall x at c f
 calls x at (callees.World kind) f e = effect x at f e
-calls x at (callees.Pure kind) f e = absurd cc
+calls x at (callees.Pure kind) f e = own x at (is_of_dictionary kind) f e
 calls x at (callees.Exported d) f e =
     elim (unless_err (is_defined x.exported d) (UnsupportedCall at) (check_effect x at) f e) [
       | inl g ↦ inl (not_defined x.exported d g.0, g.1)

@@ -1,6 +1,7 @@
 -- Looking for faults of scopes finds none where, and only where, the module is closed.
-use Rattle.std.proofs.Common.{◌≡◌, ℕ, Bool, true, false, cond, List, [], ◌∷◌, ◌++◌, Result, Ok, Err, refl}
+use Rattle.std.proofs.Common.{◌≡◌, ℕ, Bool, true, false, ◌&&◌, cond, List, [], ◌∷◌, ◌++◌, Result, Ok, Err, refl}
 use Rattle.std.specs.Prelude.{Contains}
+use Rattle.core_calls.specs.PureCalls.{is_of_dictionary}
 use Rattle.core_tokens.specs.declared.fault.ReadFault.{ReadFault}
 use Rattle.core_tokens.specs.declared.fault.ReadFault.TheVariants.{Unbound, DuplicateVariable, DuplicateFunction, NoFunction, UnsupportedCall, EffectInGuard, NoMain}
 use Rattle.core_tree.specs.Syntax.{Mention, Function, NamedAt, Callee, Tree, Trees, Clauses, DefinitionTree, ModuleTree}
@@ -69,6 +70,22 @@ effect_found x at e = (if_ok x.in_guard (EffectInGuard at) (Ok tt) e).0
 found_effect : (x : Setting) (at : ℕ) → x.in_guard ≡ false → check_effect x at ≡ Ok tt
 found_effect x at h = rw h refl
 
+own_found : (x : Setting) (at : ℕ) (b : Bool) → cond b (check_effect x at) (Ok tt) ≡ Ok tt → (x.in_guard && b) ≡ false
+own_found x at true e = rw (effect_found x at e) refl
+own_found x at false e = never x.in_guard
+  where
+    never : (b : Bool) → (b && false) ≡ false
+    never true = refl
+    never false = refl
+
+found_own : (x : Setting) (at : ℕ) (b : Bool) → (x.in_guard && b) ≡ false → cond b (check_effect x at) (Ok tt) ≡ Ok tt
+found_own x at true h = found_effect x at (both x.in_guard h)
+  where
+    both : (b : Bool) → (b && true) ≡ false → b ≡ false
+    both true e = absurd cc
+    both false e = refl
+found_own x at false h = refl
+
 defined_found : (defined : List Function) (f : Function) (e : is_defined defined f ≡ true) → Contains defined f
 defined_found defined f e = any_contains same_function same_function_is function_own defined f e
 
@@ -77,7 +94,7 @@ found_defined defined f h = contains_any same_function same_function_is function
 
 callee_found : (x : Setting) (at : ℕ) (c : Callee) → check_callee x at c ≡ Ok tt → MayCall x c
 callee_found x at (callees.World kind) e = effect_found x at e
-callee_found x at (callees.Pure kind) e = tt
+callee_found x at (callees.Pure kind) e = own_found x at (is_of_dictionary kind) e
 callee_found x at (callees.Exported f) e =
     let h = if_fine (is_defined x.exported f) (UnsupportedCall at) (check_effect x at) e in
     (defined_found x.exported f h.0, effect_found x at h.1)
@@ -90,7 +107,7 @@ callee_found x at callees.Raise e = effect_found x at e
 
 found_callee : (x : Setting) (at : ℕ) (c : Callee) → MayCall x c → check_callee x at c ≡ Ok tt
 found_callee x at (callees.World kind) h = found_effect x at h
-found_callee x at (callees.Pure kind) h = refl
+found_callee x at (callees.Pure kind) h = found_own x at (is_of_dictionary kind) h
 found_callee x at (callees.Exported f) h = rw (found_defined x.exported f h.0) (found_effect x at h.1)
 found_callee x at (callees.Defined n) h =
     let rest : Checked = cond (is_defined x.defined n.function) (Ok tt) (Err (NoFunction n.at)) in

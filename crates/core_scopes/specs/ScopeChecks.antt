@@ -1,6 +1,7 @@
 -- Looking for the first fault of scopes in the order of the text.
 use Rattle.std.specs.Prelude.{ℕ, List, [], ◌∷◌, ◌++◌, Bool, Result, Ok, Err, if◌then◌else◌}
 use Rattle.std.specs.List.{list_any}
+use Rattle.core_calls.specs.PureCalls.{is_of_dictionary}
 use Rattle.core_tokens.specs.declared.fault.ReadFault.{ReadFault}
 use Rattle.core_tokens.specs.declared.fault.ReadFault.TheVariants.{Unbound, DuplicateVariable, DuplicateFunction, NoFunction, UnsupportedCall, EffectInGuard, NoMain}
 use Rattle.core_tree.specs.Syntax.{Mention, Function, NamedAt, Callee, Tree, Trees, Clauses, DefinitionTree, ModuleTree}
@@ -36,7 +37,7 @@ check_effect x at = if x.in_guard then Err (EffectInGuard at) else Ok tt
 -- what the call at this place calls may be called there
 abbrev pub check_callee : Setting → ℕ → Callee → Checked
 check_callee x at (callees.World kind) = check_effect x at
-check_callee x at (callees.Pure kind) = Ok tt
+check_callee x at (callees.Pure kind) = if is_of_dictionary kind then check_effect x at else Ok tt
 check_callee x at (callees.Exported f) = if is_defined x.exported f then check_effect x at else Err (UnsupportedCall at)
 check_callee x at (callees.Defined n) = check_effect x at >>= λ _. (if is_defined x.defined n.function then Ok tt else Err (NoFunction n.at))
 check_callee x at callees.MatchFail = check_effect x at

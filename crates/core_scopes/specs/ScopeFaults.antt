@@ -1,5 +1,6 @@
 -- What a fault of scopes and names says of a module: what its line says is true at its place.
 use Rattle.std.specs.Prelude.{◌≡◌, ◌⊎◌, ℕ, true, List, [], ◌∷◌, ◌++◌, Contains}
+use Rattle.core_calls.specs.PureCalls.{is_of_dictionary}
 use Rattle.core_tokens.specs.declared.fault.ReadFault.{ReadFault}
 use Rattle.core_tokens.specs.declared.fault.ReadFault.TheVariants.{Unbound, DuplicateVariable, DuplicateFunction, NoFunction, UnsupportedCall, EffectInGuard, NoMain}
 use Rattle.core_tree.specs.Syntax.{Mention, Function, NamedAt, Callee, Tree, Trees, Clauses, DefinitionTree, ModuleTree}
@@ -19,7 +20,7 @@ HasEffect x at fault = (x.in_guard ≡ true) × (fault ≡ EffectInGuard at)
 -- the call at this place may not be made there: it is in a guard, or calls what is not exported or not defined
 abbrev pub MayNotCall : Setting → ℕ → Callee → ReadFault → Type 0
 MayNotCall x at (callees.World kind) fault = HasEffect x at fault
-MayNotCall x at (callees.Pure kind) fault = ⊥
+MayNotCall x at (callees.Pure kind) fault = (is_of_dictionary kind ≡ true) × HasEffect x at fault
 MayNotCall x at (callees.Exported f) fault = (¬ (Contains x.exported f) × (fault ≡ UnsupportedCall at)) ⊎ HasEffect x at fault
 MayNotCall x at (callees.Defined n) fault = HasEffect x at fault ⊎ (¬ (Contains x.defined n.function) × (fault ≡ NoFunction n.at))
 MayNotCall x at callees.MatchFail fault = HasEffect x at fault

@@ -1,5 +1,6 @@
 -- Which modules are closed: each variable has a binding, each function that is exported, applied or called a definition or an export, none is bound or defined twice in one place, and a guard has no effect (Core Erlang 1.0.3, "Lexical scoping" and "Static constraints").
-use Rattle.std.specs.Prelude.{◌≡◌, ℕ, Bool, true, false, List, [], ◌∷◌, ◌++◌, map, Contains, codes}
+use Rattle.std.specs.Prelude.{◌≡◌, ℕ, Bool, true, false, ◌&&◌, List, [], ◌∷◌, ◌++◌, map, Contains, codes}
+use Rattle.core_calls.specs.PureCalls.{is_of_dictionary}
 use Rattle.core_tree.specs.Syntax.{Mention, Function, NamedAt, Callee, Pattern, Patterns, patterns_of, Tree, Trees, Clauses, DefinitionTree, ModuleTree}
 use Rattle.core_tree.specs.Callee as callees
 use Rattle.core_tree.specs.Pattern as patterns
@@ -44,10 +45,10 @@ pub record Setting : Type 0 where
 abbrev pub guard_of : Setting → Setting
 guard_of x = record { defined = x.defined; exported = x.exported; in_guard = true }
 
--- what may be called there: outside of guards anything that is defined or exported, in a guard what the process answers by itself
+-- what may be called there: outside of guards anything that is defined or exported, in a guard what the process answers by itself and without its dictionary
 abbrev pub MayCall : Setting → Callee → Type 0
 MayCall x (callees.World kind) = x.in_guard ≡ false
-MayCall x (callees.Pure kind) = Unit {0}
+MayCall x (callees.Pure kind) = (x.in_guard && is_of_dictionary kind) ≡ false
 MayCall x (callees.Exported function) = Contains x.exported function × (x.in_guard ≡ false)
 MayCall x (callees.Defined named) = (x.in_guard ≡ false) × Contains x.defined named.function
 MayCall x callees.MatchFail = x.in_guard ≡ false

@@ -13,7 +13,7 @@ ghost use Rattle.core_scopes.specs.ScopeChecks.{is_among, is_defined, check_vari
 use core_tokens::ReadFault;
 use core_tree::{
     Alias, Call, Callee, Case, Catch, Clause, Clauses, Definition, Do, Expr, Exprs, FunctionName,
-    Let, NamedFunction, Onto, OntoPattern, Pattern, Patterns, Receive, Try, Variable,
+    Let, NamedFunction, Onto, OntoPattern, Pattern, Patterns, PureCall, Receive, Try, Variable,
 };
 use indexmap::{IndexMap, IndexSet};
 use std::alloc::Global;
@@ -198,12 +198,23 @@ fn check_defined(setting: &Setting, at: usize, named: &NamedFunction) -> Result<
     }
 }
 
+// A call that the process answers by itself is one without its dictionary in guards. The fault is `EffectInGuard`.
+fn check_own(setting: &Setting, at: usize, call: PureCall) -> Result<(), ReadFault>
+    ensures { result ≡ check_callee (setting_in setting.now) at (callees.Pure call) }
+{
+    if call.is_of_dictionary() {
+        check_effect(setting, at)
+    } else {
+        Ok(())
+    }
+}
+
 // What the call at the place calls may be called there.
 fn check_callee(setting: &Setting, at: usize, callee: &Callee) -> Result<(), ReadFault>
     ensures { result ≡ check_callee (setting_in setting.now) at (callee_of callee.now) }
 {
     match callee {
-        Callee::Pure(_) => Ok(()),
+        Callee::Pure(kind) => check_own(setting, at, *kind),
         Callee::World(_) | Callee::MatchFail | Callee::Raise => check_effect(setting, at),
         Callee::Exported(function) => check_exported(setting, at, function),
         Callee::Defined(named) => check_defined(setting, at, named),

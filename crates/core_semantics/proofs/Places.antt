@@ -94,7 +94,7 @@ module _ (setting : Setting) where
     tree_bare (trees.Case at t cs) env s = λ i. then_do (tree_bare t env s i) (λ vs s'. clauses_bare cs vs env s' i)
     tree_bare (trees.Receive at cs timeout action) env s =
         λ i. then_do (tree_bare timeout env s i)
-        (one (λ v s'. timed (waits_with v) (λ waits s''. received waits (λ m. selects_bare cs env m i) (λ m s'''. clauses_bare cs (m ∷ []) env s''' i) (λ s'''. tree_bare action env s''' i) s''.answers) s'))
+        (one (λ v s'. timed (waits_with v) (λ waits s''. received waits (λ m. selects_bare cs env m i) (λ m s'''. clauses_bare cs (m ∷ []) env s''' i) (λ s'''. tree_bare action env s''' i) s''.dictionary s''.answers) s'))
     tree_bare (trees.Try at t variables body ws handler) env s =
         λ i. handled (tree_bare t env s i)
         (λ vs s'. within (bound_bare variables vs [] i) env (λ inner s''. tree_bare body inner s'' i) s')
@@ -163,4 +163,4 @@ first_bare m pid e =
 pub ask_bare : (m : ModuleTree) (pid : List ℕ) (e : Entry) (answers : List Answered) → ask (bare_module m) pid e answers ≡ ask m pid e answers
 ask_bare m pid e answers =
     ap asking.request_of
-    ((λ i. body_with (setting_bare m pid i) (first_bare m pid e i) e.arguments (before answers)) ∙ body_bare (setting_of m pid) (first_function m pid e) e.arguments (before answers))
+    ((λ i. body_with (setting_bare m pid i) (first_bare m pid e i) e.arguments (before [] answers)) ∙ body_bare (setting_of m pid) (first_function m pid e) e.arguments (before [] answers))

@@ -14,10 +14,11 @@ use Rattle.core_pure_calls.specs.declared.outcome.Class.{Class}
 use Rattle.core_pure_calls.specs.declared.outcome.Class.TheVariants.{Error, Exit, Throw}
 use Rattle.core_pure_calls.specs.Answers.{Answer}
 use Rattle.core_pure_calls.specs.Answers as answers
-use Rattle.core_pure_calls.specs.Calls.{answer_of}
+use Rattle.core_pure_calls.specs.Calls.{answer_of, kept_by}
+use Rattle.core_pure_calls.specs.Dictionary.{Dictionary}
 use Rattle.core_semantics.specs.Asked.{Answered, Value, Raise, Message, TimedOut}
 use Rattle.core_stack.specs.Matching.{Environment, lookup, bound, text_of, match_each}
-use Rattle.core_semantics.specs.Evaluation.{State, before, name, Outcome, Yields, Raises, Stops, Setting, then_do, handled, one, node_limit, limited, limited_error, served, caught, caught_values, limited_answer, class_in, raised_again, value_or_error, within, is_true, guarded, taken, as_one, no_clause, waits_with, timed, received, called_with, evaluate, evaluate_all, choose}
+use Rattle.core_semantics.specs.Evaluation.{State, before, name, Outcome, Yields, Raises, Stops, Setting, then_do, handled, one, node_limit, limited, limited_error, served, caught, caught_values, limited_answer, keeping, class_in, raised_again, value_or_error, within, is_true, guarded, taken, as_one, no_clause, waits_with, timed, received, called_with, evaluate, evaluate_all, choose}
 use Rattle.core_semantics.specs.Applications.{definition, body_with, allowed, counted, applied, room, apply_of}
 use Rattle.core_semantics.specs.Ask.{Entry, first_function, is_open, function_of, request_of, ask}
 use Rattle.core_semantics.specs.Servable.{IsReadRequest}
@@ -118,23 +119,23 @@ raised_again_fine None reason s = tt
 raised_again_fine (Some class) reason s = tt
 
 -- a call that is read stops at itself, where no answer is left
-served_fine : (kind : CallKind) (arguments : List Meaning) → length arguments ≡ (signature kind).arity → (answers : List Answered) → Fine (served kind arguments answers)
-served_fine kind arguments h [] = h
-served_fine kind arguments h (Value value ∷ later) = tt
-served_fine kind arguments h (Raise reason ∷ later) = tt
-served_fine kind arguments h (Message message ∷ later) = served_fine kind arguments h later
-served_fine kind arguments h (TimedOut ∷ later) = served_fine kind arguments h later
+served_fine : (kind : CallKind) (arguments : List Meaning) → length arguments ≡ (signature kind).arity → (d : Dictionary) (answers : List Answered) → Fine (served kind arguments d answers)
+served_fine kind arguments h d [] = h
+served_fine kind arguments h d (Value value ∷ later) = tt
+served_fine kind arguments h d (Raise reason ∷ later) = tt
+served_fine kind arguments h d (Message message ∷ later) = served_fine kind arguments h d later
+served_fine kind arguments h d (TimedOut ∷ later) = served_fine kind arguments h d later
 
 timed_fine : (o : Option Bool) (go : Bool → State → Outcome) → ((waits : Bool) (s : State) → Fine (go waits s)) → (s : State) → Fine (timed o go s)
 timed_fine None go each s = tt
 timed_fine (Some waits) go each s = each waits s
 
-received_fine : (waits : Bool) (takes : Meaning → Bool) (go : Meaning → State → Outcome) (act : State → Outcome) → ((m : Meaning) (s : State) → Fine (go m s)) → ((s : State) → Fine (act s)) → (answers : List Answered) → Fine (received waits takes go act answers)
-received_fine waits takes go act each last [] = tt
-received_fine waits takes go act each last (Message m ∷ later) = each m (before later)
-received_fine waits takes go act each last (TimedOut ∷ later) = chosen waits _ _ (received_fine waits takes go act each last later) (last (before later))
-received_fine waits takes go act each last (Value value ∷ later) = received_fine waits takes go act each last later
-received_fine waits takes go act each last (Raise reason ∷ later) = received_fine waits takes go act each last later
+received_fine : (waits : Bool) (takes : Meaning → Bool) (go : Meaning → State → Outcome) (act : State → Outcome) → ((m : Meaning) (s : State) → Fine (go m s)) → ((s : State) → Fine (act s)) → (d : Dictionary) (answers : List Answered) → Fine (received waits takes go act d answers)
+received_fine waits takes go act each last d [] = tt
+received_fine waits takes go act each last d (Message m ∷ later) = each m (before d later)
+received_fine waits takes go act each last d (TimedOut ∷ later) = chosen waits _ _ (received_fine waits takes go act each last d later) (last (before d later))
+received_fine waits takes go act each last d (Value value ∷ later) = received_fine waits takes go act each last d later
+received_fine waits takes go act each last d (Raise reason ∷ later) = received_fine waits takes go act each last d later
 
 -- the body of a function, if there is one, has only such calls
 abbrev HasServableBody : Option (List Mention × Tree) → Type 0
@@ -148,8 +149,8 @@ module _ (own : List ℕ) (apply : Function → List Meaning → State → Outco
   here = record { own = own; apply = apply }
 
   applied_fine : (callee : Callee) (vs : List Meaning) (s : State) → MayBeCalled callee (length vs) → Fine (called_with here callee vs s)
-  applied_fine (callees.World kind) vs s h = served_fine kind vs h s.answers
-  applied_fine (callees.Pure kind) vs s h = told_fine (answer_of own kind vs) s
+  applied_fine (callees.World kind) vs s h = served_fine kind vs h s.dictionary s.answers
+  applied_fine (callees.Pure kind) vs s h = told_fine (answer_of own s.dictionary kind vs) (keeping (kept_by kind vs s.dictionary) s)
   applied_fine (callees.Exported f) vs s h = fine f vs s
   applied_fine (callees.Defined named) vs s h = fine named.function vs s
   applied_fine callees.MatchFail [] s h = tt
@@ -186,7 +187,7 @@ module _ (own : List ℕ) (apply : Function → List Meaning → State → Outco
     evaluate_fine (trees.Case at t cs) env s h = goes_on _ _ (evaluate_fine t env s h.0) (λ vs s'. choose_fine cs vs env s' h.1)
     evaluate_fine (trees.Receive at cs timeout action) env s h =
         goes_on _ _ (evaluate_fine timeout env s h.1)
-        (one_fine _ (λ v s'. timed_fine (waits_with v) _ (λ waits s''. received_fine waits _ _ _ (λ m s3. choose_fine cs (m ∷ []) env s3 h.0) (λ s3. evaluate_fine action env s3 h.2) s''.answers) s'))
+        (one_fine _ (λ v s'. timed_fine (waits_with v) _ (λ waits s''. received_fine waits _ _ _ (λ m s3. choose_fine cs (m ∷ []) env s3 h.0) (λ s3. evaluate_fine action env s3 h.2) s''.dictionary s''.answers) s'))
     evaluate_fine (trees.Try at t variables body caught_variables handler) env s h =
         goes_on_handled _ _ _ (evaluate_fine t env s h.0)
         (λ vs s'. within_fine (bound variables vs []) env _ (λ inner s''. evaluate_fine body inner s'' h.1) s')
@@ -236,4 +237,4 @@ requested (Stops request) h = h
 
 pub asks_what_is_read : (m : ModuleTree) (pid : List ℕ) (e : Entry) (answers : List Answered) → IsServableModule m → IsReadRequest (ask m pid e answers)
 asks_what_is_read m pid e answers h =
-    requested _ (body_fine pid (apply_of m pid) (λ f vs s. applications_fine m pid h (suc (room s)) f vs s) (first_function m pid e) e.arguments (before answers) (first_servable m pid e h))
+    requested _ (body_fine pid (apply_of m pid) (λ f vs s. applications_fine m pid h (suc (room s)) f vs s) (first_function m pid e) e.arguments (before [] answers) (first_servable m pid e h))

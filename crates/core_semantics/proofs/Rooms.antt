@@ -11,10 +11,11 @@ use Rattle.core_pure_calls.specs.declared.outcome.Class.{Class}
 use Rattle.core_pure_calls.specs.declared.outcome.Class.TheVariants.{Error, Exit, Throw}
 use Rattle.core_semantics.specs.Asked.{Receive, Answered, Value, Raise, Message, TimedOut}
 use Rattle.core_stack.specs.Matching.{Environment, lookup, bound, text_of, match_each}
-use Rattle.core_semantics.specs.Evaluation.{State, before, name, Outcome, Yields, Raises, Stops, Setting, then_do, handled, one, node_limit, limited, served, called, caught, caught_values, limited_answer, class_in, raised_again, value_or_error, within, is_true, guarded, taken, no_clause, waits_with, timed, received, at_rest, holds, is_taken, called_with, evaluate, evaluate_all, choose, selects}
+use Rattle.core_semantics.specs.Evaluation.{State, before, name, Outcome, Yields, Raises, Stops, Setting, then_do, handled, one, node_limit, limited, served, called, caught, caught_values, limited_answer, keeping, class_in, raised_again, value_or_error, within, is_true, guarded, taken, no_clause, waits_with, timed, received, at_rest, holds, is_taken, called_with, evaluate, evaluate_all, choose, selects}
 use Rattle.core_pure_calls.specs.Answers.{Answer}
 use Rattle.core_pure_calls.specs.Answers as answers
-use Rattle.core_pure_calls.specs.Calls.{answer_of}
+use Rattle.core_pure_calls.specs.Calls.{answer_of, kept_by}
+use Rattle.core_pure_calls.specs.Dictionary.{Dictionary}
 use Rattle.core_semantics.specs.Applications.{limit, room, body_with}
 
 -- an evaluation ends with at most this room
@@ -113,15 +114,15 @@ module _ (r : ℕ) where
   both_raised_again None reason s le = alone r (raised_again None reason s) le
   both_raised_again (Some class) reason s le = alone r (Raises class reason s) le
 
-  served_fits : (kind : CallKind) (arguments : List Meaning) (answers : List Answered) → (limit + 1) * length answers ≤ r → Fits r (served kind arguments answers)
-  served_fits kind arguments [] le = tt
-  served_fits kind arguments (Value value ∷ later) le = omega (arith, le)
-  served_fits kind arguments (Raise reason ∷ later) le = omega (arith, le)
-  served_fits kind arguments (Message message ∷ later) le = served_fits kind arguments later (omega (arith, le))
-  served_fits kind arguments (TimedOut ∷ later) le = served_fits kind arguments later (omega (arith, le))
+  served_fits : (kind : CallKind) (arguments : List Meaning) (d : Dictionary) (answers : List Answered) → (limit + 1) * length answers ≤ r → Fits r (served kind arguments d answers)
+  served_fits kind arguments d [] le = tt
+  served_fits kind arguments d (Value value ∷ later) le = omega (arith, le)
+  served_fits kind arguments d (Raise reason ∷ later) le = omega (arith, le)
+  served_fits kind arguments d (Message message ∷ later) le = served_fits kind arguments d later (omega (arith, le))
+  served_fits kind arguments d (TimedOut ∷ later) le = served_fits kind arguments d later (omega (arith, le))
 
   both_called : (kind : CallKind) (arguments : List Meaning) → Everywhere (called kind arguments) (called kind arguments)
-  both_called kind arguments s le = alone r (called kind arguments s) (served_fits kind arguments s.answers (omega (arith, le)))
+  both_called kind arguments s le = alone r (called kind arguments s) (served_fits kind arguments s.dictionary s.answers (omega (arith, le)))
 
   both_timed : (o : Option Bool) (go go' : Bool → State → Outcome) → ((waits : Bool) → Everywhere (go waits) (go' waits)) → Everywhere (timed o go) (timed o go')
   both_timed None go go' e s le = alone r (timed None go s) le
@@ -129,13 +130,13 @@ module _ (r : ℕ) where
 
   -- two receives that take the same messages, and go on alike
   both_received : (waits : Bool) (takes takes' : Meaning → Bool) → takes ≡ takes' → (go go' : Meaning → State → Outcome) → ((m : Meaning) → Everywhere (go m) (go' m)) → (act act' : State → Outcome) → Everywhere act act'
-      → (answers : List Answered) → (limit + 1) * length answers ≤ r → Both r (received waits takes go act answers) (received waits takes' go' act' answers)
-  both_received waits takes takes' e go go' each act act' last [] le = record { same = λ i. Stops (Receive waits (e i)); fits = tt }
-  both_received waits takes takes' e go go' each act act' last (Message m ∷ later) le = each m (before later) (omega (arith, le))
-  both_received waits takes takes' e go go' each act act' last (TimedOut ∷ later) le =
-      either r waits _ _ _ _ (both_received waits takes takes' e go go' each act act' last later (omega (arith, le))) (last (before later) (omega (arith, le)))
-  both_received waits takes takes' e go go' each act act' last (Value value ∷ later) le = both_received waits takes takes' e go go' each act act' last later (omega (arith, le))
-  both_received waits takes takes' e go go' each act act' last (Raise reason ∷ later) le = both_received waits takes takes' e go go' each act act' last later (omega (arith, le))
+      → (d : Dictionary) (answers : List Answered) → (limit + 1) * length answers ≤ r → Both r (received waits takes go act d answers) (received waits takes' go' act' d answers)
+  both_received waits takes takes' e go go' each act act' last d [] le = record { same = λ i. Stops (Receive waits (e i)); fits = tt }
+  both_received waits takes takes' e go go' each act act' last d (Message m ∷ later) le = each m (before d later) (omega (arith, le))
+  both_received waits takes takes' e go go' each act act' last d (TimedOut ∷ later) le =
+      either r waits _ _ _ _ (both_received waits takes takes' e go go' each act act' last d later (omega (arith, le))) (last (before d later) (omega (arith, le)))
+  both_received waits takes takes' e go go' each act act' last d (Value value ∷ later) le = both_received waits takes takes' e go go' each act act' last d later (omega (arith, le))
+  both_received waits takes takes' e go go' each act act' last d (Raise reason ∷ later) le = both_received waits takes takes' e go go' each act act' last d later (omega (arith, le))
 
 -- two guards that give the same are taken alike
 taken_alike : (o : Option Environment) (env : Environment) (guard guard' : Environment → Outcome) → ((inner : Environment) → guard inner ≡ guard' inner) → is_taken o env guard ≡ is_taken o env guard'
@@ -153,7 +154,7 @@ module _ (own : List ℕ) (a b : Function → List Meaning → State → Outcome
 
   both_applied : (callee : Callee) (vs : List Meaning) → Everywhere r (called_with one_setting callee vs) (called_with other_setting callee vs)
   both_applied (callees.World kind) vs s le = both_called r kind vs s le
-  both_applied (callees.Pure kind) vs s le = both_told r (answer_of own kind vs) s le
+  both_applied (callees.Pure kind) vs s le = both_told r (answer_of own s.dictionary kind vs) (keeping (kept_by kind vs s.dictionary) s) le
   both_applied (callees.Exported f) vs s le = agree f vs s le
   both_applied (callees.Defined named) vs s le = agree named.function vs s le
   both_applied callees.MatchFail [] s le = alone r _ le
@@ -181,7 +182,7 @@ module _ (own : List ℕ) (a b : Function → List Meaning → State → Outcome
     both_evaluated (trees.Case at t cs) env s le = both_then r _ _ _ _ (both_evaluated t env s le) (λ vs. both_chosen cs vs env)
     both_evaluated (trees.Receive at cs timeout action) env s le =
         both_then r _ _ _ _ (both_evaluated timeout env s le)
-        (both_one r _ _ (λ v. both_timed r (waits_with v) _ _ (λ waits s' le'. both_received r waits _ _ (λ i m. selected_alike cs env m i) _ _ (λ m. both_chosen cs (m ∷ []) env) _ _ (both_evaluated action env) s'.answers (omega (arith, le')))))
+        (both_one r _ _ (λ v. both_timed r (waits_with v) _ _ (λ waits s' le'. both_received r waits _ _ (λ i m. selected_alike cs env m i) _ _ (λ m. both_chosen cs (m ∷ []) env) _ _ (both_evaluated action env) s'.dictionary s'.answers (omega (arith, le')))))
     both_evaluated (trees.Try at t variables body caught_variables handler) env s le =
         both_handled r _ _ _ _ _ _ (both_evaluated t env s le)
         (λ vs. both_within r (bound variables vs []) env _ _ (λ inner. both_evaluated body inner))

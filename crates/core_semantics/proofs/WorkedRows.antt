@@ -3,6 +3,8 @@ use Rattle.std.proofs.Common.{◌≡◌, ℕ, List, [], ◌∷◌, length, refl}
 use Rattle.std.specs.Prelude.{codes, pos}
 use Rattle.core_calls.specs.declared.call.CallKind.TheVariants.{New, Insert, Lookup}
 use Rattle.core_calls.specs.declared.call.CallKind.{CallKind}
+use Rattle.core_calls.specs.declared.pure.PureCall.{PureCall}
+use Rattle.core_calls.specs.declared.pure.PureCall.TheVariants as pures
 use Rattle.core_tree.specs.Syntax.{Mention, Tree, trees_of, ModuleTree, NamedAt}
 use Rattle.core_tree.specs.Callee as callees
 use Rattle.core_tree.specs.Expression as trees
@@ -85,6 +87,24 @@ front_tail = refl
 -- two variables want two values
 pub value_count : asks (trees.Let (record { at = 0; name = codes "X" } ∷ record { at = 0; name = codes "Y" } ∷ []) (trees.Integer (pos 1)) (trees.Integer (pos 2))) [] ≡ End (error_of (codes "value_count"))
 value_count = refl
+
+-- what was put into the process dictionary is there after an error that was caught, and after an answer
+abbrev by_itself : PureCall → List Tree → Tree
+by_itself kind ts = trees.Call 0 (callees.Pure kind) (trees_of ts)
+
+abbrev keeps : Tree
+keeps = trees.Do (trees.Catch 0 (trees.Do (by_itself pures.Put (an_atom (codes "k") ∷ trees.Integer (pos 1) ∷ [])) (by_itself pures.Error (an_atom (codes "x") ∷ []))))
+    (trees.Do (a_call Lookup []) (a_call Insert (by_itself pures.Get (an_atom (codes "k") ∷ []) ∷ [])))
+
+pub keeps_nothing_else : asks keeps [] ≡ Call Lookup []
+keeps_nothing_else = refl
+
+pub keeps_what_was_put : asks keeps (Value Nil ∷ []) ≡ Call Insert (Int (pos 1) ∷ [])
+keeps_what_was_put = refl
+
+-- a process begins with nothing in it
+pub begins_empty : asks (a_call Insert (by_itself pures.GetAll [] ∷ [])) [] ≡ Call Insert (Nil ∷ [])
+begins_empty = refl
 
 -- another process begins at an export alone
 pub undefined : ask (module_of rows) (1 ∷ []) (entry (codes "m") (codes "other") []) [] ≡ End (error_of (codes "undef"))

@@ -21,7 +21,7 @@ body_with setting (Some f) arguments s = within (bound f.0 arguments []) [] (λ 
 
 -- after one more application
 abbrev pub counted : State → State
-counted s = record { answers = s.answers; made = s.made + 1 }
+counted s = record { answers = s.answers; dictionary = s.dictionary; made = s.made + 1 }
 
 -- an application, where those in its body give what is reported; one more than the module allows runs away, which nothing catches
 abbrev pub applied_once : ModuleTree → List ℕ → (Function → List Meaning → State → Outcome) → Function → List Meaning → State → Outcome

@@ -58,6 +58,6 @@ request_of (Yields values s) = End (terms.Atom (codes "normal"))
 request_of (Raises class reason s) = End (reason_of class reason)
 request_of (Stops request) = request
 
--- what the process of a module that began at an entry asks after these answers; its beginning is no application
+-- what the process of a module that began at an entry, with an empty dictionary, asks after these answers; its beginning is no application
 abbrev pub ask : ModuleTree → List ℕ → Entry → List Answered → Asked
-ask m pid e answers = request_of (body_with (setting_of m pid) (first_function m pid e) e.arguments (before answers))
+ask m pid e answers = request_of (body_with (setting_of m pid) (first_function m pid e) e.arguments (before [] answers))

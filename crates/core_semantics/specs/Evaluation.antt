@@ -1,4 +1,4 @@
--- Evaluation (Core Erlang 1.0.3, "Expressions"): what an expression gives, from left to right, out of the answers to the calls and receives that it makes.
+-- Evaluation (Core Erlang 1.0.3, "Expressions"): what an expression gives, from left to right, out of the answers to the calls and receives that it makes and of the process dictionary.
 use Rattle.std.specs.Prelude.{Bool, false, ◌||◌, pos, List, [], ◌∷◌, ◌++◌, length}
 use Rattle.core_tree.specs.Syntax.{patterns_of, Callee, Tree, Trees, Clauses}
 use Rattle.core_tree.specs.Callee as callees
@@ -6,9 +6,8 @@ use Rattle.core_tree.specs.Expression as trees
 use Rattle.term_core.specs.Meaning.{Meaning, Int, Tuple, Nil, meanings_of}
 use Rattle.term_core.specs.Term.{list_onto}
 use Rattle.core_pure_calls.specs.declared.outcome.Class.TheVariants.{Error}
-use Rattle.core_pure_calls.specs.Calls.{answer_of}
 use Rattle.core_stack.specs.Matching.{Environment, lookup, bound, text_of, match_each}
-pub use Rattle.core_semantics.specs.Outcomes.{State, before, Outcome, Yields, Raises, Stops, Setting, then_do, handled, name, error, one, node_limit, within_limit, limited, limited_error, undefined, limited_answer, served, called}
+pub use Rattle.core_semantics.specs.Outcomes.{State, before, Outcome, Yields, Raises, Stops, Setting, then_do, handled, name, error, one, node_limit, within_limit, limited, limited_error, undefined, limited_answer, by_itself, keeping, served, called}
 pub use Rattle.core_semantics.specs.Exceptions.{class_name, trace_of, caught_values, caught, begins_with, match_reason, class_named, class_in, raised_again}
 pub use Rattle.core_semantics.specs.Clauses.{value_or_error, within, is_true, guarded, taken, as_one, no_clause}
 pub use Rattle.core_semantics.specs.Receiving.{longest_timeout, waits_with, timed, received, at_rest, holds, is_taken}
@@ -17,7 +16,7 @@ module _ (setting : Setting) where
   -- what is applied to arguments; a call that was read has as many of them as it takes
   abbrev pub called_with : Callee → List Meaning → State → Outcome
   called_with (callees.World kind) arguments s = called kind arguments s
-  called_with (callees.Pure kind) arguments s = limited_answer (answer_of setting.own kind arguments) s
+  called_with (callees.Pure kind) arguments s = by_itself setting.own kind arguments s
   called_with (callees.Exported function) arguments s = setting.apply function arguments s
   called_with (callees.Defined named) arguments s = setting.apply named.function arguments s
   called_with callees.MatchFail (reason ∷ []) s = Raises Error (match_reason reason) s
@@ -42,7 +41,7 @@ module _ (setting : Setting) where
     evaluate (trees.Case at t cs) env s = then_do (evaluate t env s) (λ vs s'. choose cs vs env s')
     evaluate (trees.Receive at cs timeout action) env s =
         then_do (evaluate timeout env s)
-        (one (λ v s'. timed (waits_with v) (λ waits s''. received waits (λ m. selects cs env m) (λ m s'''. choose cs (m ∷ []) env s''') (λ s'''. evaluate action env s''') s''.answers) s'))
+        (one (λ v s'. timed (waits_with v) (λ waits s''. received waits (λ m. selects cs env m) (λ m s'''. choose cs (m ∷ []) env s''') (λ s'''. evaluate action env s''') s''.dictionary s''.answers) s'))
     evaluate (trees.Try at t variables body caught_variables handler) env s =
         handled (evaluate t env s)
         (λ vs s'. within (bound variables vs []) env (λ inner s''. evaluate body inner s'') s')
@@ -67,4 +66,4 @@ module _ (setting : Setting) where
 
   -- a receive with its timeout: a message goes on in the first clause that it matches and whose guard holds, as the value of a `case` does, and no message in time in the action
   abbrev pub receive : Bool → Clauses → Tree → Environment → State → Outcome
-  receive waits cs action env s = received waits (λ m. selects cs env m) (λ m s'. choose cs (m ∷ []) env s') (λ s'. evaluate action env s') s.answers
+  receive waits cs action env s = received waits (λ m. selects cs env m) (λ m s'. choose cs (m ∷ []) env s') (λ s'. evaluate action env s') s.dictionary s.answers

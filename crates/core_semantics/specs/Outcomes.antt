@@ -1,6 +1,7 @@
 -- What an evaluation results in: values, an exception, or a request that is not answered yet (Core Erlang 1.0.3, "Expressions").
 use Rattle.std.specs.Prelude.{ℕ, List, [], ◌∷◌, if◌then◌else◌, nat_le, codes}
 use Rattle.core_calls.specs.declared.call.CallKind.{CallKind}
+use Rattle.core_calls.specs.declared.pure.PureCall.{PureCall}
 use Rattle.core_tree.specs.Syntax.{Function}
 use Rattle.term_core.specs.Meaning.{Meaning, node_count}
 use Rattle.term_core.specs.Meaning as terms
@@ -8,20 +9,27 @@ use Rattle.core_pure_calls.specs.declared.outcome.Class.{Class}
 use Rattle.core_pure_calls.specs.declared.outcome.Class.TheVariants.{Error}
 use Rattle.core_pure_calls.specs.Answers.{Answer}
 use Rattle.core_pure_calls.specs.Answers as answers
+use Rattle.core_pure_calls.specs.Calls.{answer_of, kept_by}
+use Rattle.core_pure_calls.specs.Dictionary.{Dictionary}
 use Rattle.core_semantics.specs.Asked.{Asked, Call, Answered, Value, Raise, Message, TimedOut}
 
--- the answers that are still to come, and the applications made since the last one
+-- the answers that are still to come, the process dictionary, and the applications made since the last answer
 pub record State : Type 0 where
   pub answers : List Answered
+  pub dictionary : Dictionary
   pub made : ℕ
 
 -- the most applications between two requests that a module can allow
 abbrev pub limit : ℕ
 limit = 1000000
 
--- before these answers, with no application made
-abbrev pub before : List Answered → State
-before answers = record { answers = answers; made = 0 }
+-- with this dictionary before these answers, with no application made
+abbrev pub before : Dictionary → List Answered → State
+before dictionary answers = record { answers = answers; dictionary = dictionary; made = 0 }
+
+-- with another dictionary
+abbrev pub keeping : Dictionary → State → State
+keeping dictionary s = record { answers = s.answers; dictionary = dictionary; made = s.made }
 
 -- an evaluation yields values, raises an exception, or stops at a request that is not answered
 pub data Outcome : Type 0 where
@@ -85,13 +93,17 @@ abbrev pub limited_answer : Answer → State → Outcome
 limited_answer (answers.Value value) s = limited value s
 limited_answer (answers.Raised class reason) s = Raises class reason s
 
+-- a call that the process with this pid answers by itself, with its dictionary as the call leaves it
+abbrev pub by_itself : List ℕ → PureCall → List Meaning → State → Outcome
+by_itself own kind arguments s = limited_answer (answer_of own s.dictionary kind arguments) (keeping (kept_by kind arguments s.dictionary) s)
+
 -- a call with the answers that are left: the first that is one to a call is its value or its error; with none left the call is the request
-abbrev pub served : CallKind → List Meaning → List Answered → Outcome
-served kind arguments [] = Stops (Call kind arguments)
-served kind arguments (Value value ∷ later) = Yields (value ∷ []) (before later)
-served kind arguments (Raise reason ∷ later) = Raises Error reason (before later)
-served kind arguments (Message message ∷ later) = served kind arguments later
-served kind arguments (TimedOut ∷ later) = served kind arguments later
+abbrev pub served : CallKind → List Meaning → Dictionary → List Answered → Outcome
+served kind arguments d [] = Stops (Call kind arguments)
+served kind arguments d (Value value ∷ later) = Yields (value ∷ []) (before d later)
+served kind arguments d (Raise reason ∷ later) = Raises Error reason (before d later)
+served kind arguments d (Message message ∷ later) = served kind arguments d later
+served kind arguments d (TimedOut ∷ later) = served kind arguments d later
 
 abbrev pub called : CallKind → List Meaning → State → Outcome
-called kind arguments s = served kind arguments s.answers
+called kind arguments s = served kind arguments s.dictionary s.answers

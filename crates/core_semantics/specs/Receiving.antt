@@ -2,6 +2,7 @@
 use Rattle.std.specs.Prelude.{ℕ, pos, ◌||◌, Bool, true, false, List, [], ◌∷◌, ◌++◌, Option, Some, None, if◌then◌else◌, int_lt, codes}
 use Rattle.term_core.specs.Meaning.{Meaning, Int}
 use Rattle.term_core.specs.Kinds.{is_the_atom}
+use Rattle.core_pure_calls.specs.Dictionary.{Dictionary}
 use Rattle.core_semantics.specs.Asked.{Receive, Answered, Value, Raise, Message, TimedOut}
 use Rattle.core_stack.specs.Matching.{Environment}
 use Rattle.core_semantics.specs.Outcomes.{State, before, limit, Outcome, Yields, Raises, Stops, error}
@@ -22,16 +23,16 @@ timed None go s = error (codes "timeout_value") s
 timed (Some waits) go s = go waits s
 
 -- a receive with the answers that are left: the first that is one to it is a message that it takes, or that none came in time, which never happens where it waits for ever; with none left the receive is the request
-abbrev pub received : Bool → (Meaning → Bool) → (Meaning → State → Outcome) → (State → Outcome) → List Answered → Outcome
-received waits selects take act [] = Stops (Receive waits selects)
-received waits selects take act (Message message ∷ later) = take message (before later)
-received waits selects take act (TimedOut ∷ later) = if waits then received waits selects take act later else act (before later)
-received waits selects take act (Value value ∷ later) = received waits selects take act later
-received waits selects take act (Raise reason ∷ later) = received waits selects take act later
+abbrev pub received : Bool → (Meaning → Bool) → (Meaning → State → Outcome) → (State → Outcome) → Dictionary → List Answered → Outcome
+received waits selects take act d [] = Stops (Receive waits selects)
+received waits selects take act d (Message message ∷ later) = take message (before d later)
+received waits selects take act d (TimedOut ∷ later) = if waits then received waits selects take act d later else act (before d later)
+received waits selects take act d (Value value ∷ later) = received waits selects take act d later
+received waits selects take act d (Raise reason ∷ later) = received waits selects take act d later
 
--- where nothing more is answered and no function can be applied: there guards are judged before a message is taken, since a guard neither asks nor applies
+-- where nothing more is answered, nothing is kept and no function can be applied: there guards are judged before a message is taken, since a guard neither asks nor applies, and sees no dictionary
 abbrev pub at_rest : State
-at_rest = record { answers = []; made = limit }
+at_rest = record { answers = []; dictionary = []; made = limit }
 
 -- whether a guard gave `'true'`, and nothing else
 abbrev pub holds : Outcome → Bool

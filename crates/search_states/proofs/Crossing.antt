@@ -41,6 +41,9 @@ use Rattle.world_records.below.core_calls.proofs.call.CallKind.TheSendSync as ca
 use Rattle.world_records.below.core_eval.specs.contracts.machine.Machine as Machine
 use Rattle.world_records.below.core_eval.specs.contracts.machine.Machine.TheInside as MachineInside
 use Rattle.world_records.below.core_eval.specs.contracts.request.Request as Request
+use Rattle.world_records.below.core_pure_calls.specs.contracts.dictionary.Dictionary as Dictionary
+use Rattle.world_records.below.core_pure_calls.specs.contracts.dictionary.Dictionary.TheInside as DictionaryInside
+use Rattle.world_records.below.core_pure_calls.specs.contracts.dictionary.Entry as Entry
 use Rattle.world_records.below.core_stack.proofs.layers.Layer.TheLaws.TheKnot as layers
 use Rattle.world_records.below.core_stack.specs.contracts.bindings.Binding as Binding
 use Rattle.world_records.below.core_stack.specs.contracts.bindings.Bindings as Bindings
@@ -171,11 +174,23 @@ request_send = variants_send Request.enum ((call.the_send, ((search (terms_send,
 request_sync : IsSync Request.the_row
 request_sync = variants_sync Request.enum ((call.the_sync, ((search (terms_send, terms_sync, crosses, maps.crosses, sendable) depth 20), tt)), (((search sendable), tt), ((term_sync, tt), (tt, tt))))
 
+entry_send : IsSend Entry.the_row
+entry_send = declared_send Entry.the_type (term_send, (term_send, tt))
+
+entry_sync : IsSync Entry.the_row
+entry_sync = declared_sync Entry.the_type (term_sync, (term_sync, tt))
+
+dictionary_send : IsSend Dictionary.the_row
+dictionary_send = view_send _ _ _ _ _ (declared_send DictionaryInside.the_type ((search (entry_send, entry_sync, crosses, maps.crosses, sendable) depth 20), tt))
+
+dictionary_sync : IsSync Dictionary.the_row
+dictionary_sync = view_sync _ _ _ _ _ (declared_sync DictionaryInside.the_type ((search (entry_send, entry_sync, crosses, maps.crosses, sendable) depth 20), tt))
+
 machine_send : (a : NamedLft) → IsSend (Machine.the_row a)
-machine_send a = view_send _ _ _ _ _ (declared_send (MachineInside.the_type a) ((search (module_sync, crosses, maps.crosses, sendable) depth 20), (pid.the_send, ((search (stack_send, crosses, maps.crosses, sendable) depth 20), (request_send, ((search sendable), tt))))))
+machine_send a = view_send _ _ _ _ _ (declared_send (MachineInside.the_type a) ((search (module_sync, crosses, maps.crosses, sendable) depth 20), (pid.the_send, ((search (stack_send, crosses, maps.crosses, sendable) depth 20), (dictionary_send, (request_send, ((search sendable), tt)))))))
 
 machine_sync : (a : NamedLft) → IsSync (Machine.the_row a)
-machine_sync a = view_sync _ _ _ _ _ (declared_sync (MachineInside.the_type a) ((search (module_sync, crosses, maps.crosses, sendable) depth 20), (pid.the_sync, ((search (stack_sync, crosses, maps.crosses, sendable) depth 20), (request_sync, ((search sendable), tt))))))
+machine_sync a = view_sync _ _ _ _ _ (declared_sync (MachineInside.the_type a) ((search (module_sync, crosses, maps.crosses, sendable) depth 20), (pid.the_sync, ((search (stack_sync, crosses, maps.crosses, sendable) depth 20), (dictionary_sync, (request_sync, ((search sendable), tt)))))))
 
 -- ---- processes
 

@@ -51,6 +51,27 @@ const EVERY_TURN: &str =
 const EVERY_LINE: &str =
     "1 P erlang:spawn('m','c',[]) -> P.1\n2 P erlang:spawn_link('m','c',[]) -> P.2\n3 P erlang:spawn_monitor('m','c',[]) -> {P.3,#P.3}\n4 P erlang:monitor('process',P.1) -> #P.4\n5 P erlang:make_ref() -> #P.5\n6 P erlang:process_flag('trap_exit','true') -> 'false'\n7 P erlang:register('n',P.1) -> 'true'\n8 P erlang:whereis('n') -> P.1\n9 P erlang:!('n',{'a',1}) -> {'a',1}\n10 P erlang:send(P.1,'b') -> 'b'\n11 P erlang:link(P.1) -> 'true'\n12 P erlang:unlink(P.1) -> 'true'\n13 P erlang:unregister('n') -> 'true'\n14 P erlang:demonitor(#P.4) -> 'true'\n15 P erlang:demonitor(#P.5,['flush']) -> 'true'\n16 P erlang:is_process_alive(P.2) -> 'true'\n17 P erlang:exit(P.2,'bad') -> 'true'\n18 P erlang:exit(P.3,'kill') -> 'true'\n19 P>P.2 exit 'bad' -> ends 'bad'\n20 P.2>P exit 'bad' -> {'EXIT',P.2,'bad'}\n21 P>P.3 exit 'kill' -> ends 'killed'\n22 P.3>P down #P.3 -> {'DOWN',#P.3,'process',P.3,'killed'}\n23 P receives {'EXIT',P.2,'bad'}\n24 P ets:new('t',['named_table','public']) -> 't'\n25 P ets:insert('t',[{'a',1},{'b',2}]) -> 'true'\n26 P ets:insert_new('t',{'c',3}) -> 'true'\n27 P ets:lookup('t','a') -> [{'a',1}]\n28 P ets:member('t','b') -> 'true'\n29 P ets:lookup_element('t','c',2) -> 3\n30 P ets:first('t') -> 'a'\n31 P ets:last('t') -> 'a'\n32 P ets:next('t','a') -> 'b'\n33 P ets:prev('t','b') -> 'c'\n34 P ets:tab2list('t') -> [{'a',1},{'b',2},{'c',3}]\n35 P ets:update_counter('t','a',5) -> 6\n36 P ets:update_element('t','a',{2,'z'}) -> 'true'\n37 P ets:take('t','b') -> [{'b',2}]\n38 P ets:delete('t','a') -> 'true'\n39 P ets:delete_object('t',{'c',3}) -> 'true'\n40 P ets:delete_all_objects('t') -> 'true'\n41 P ets:setopts('t',{'heir',P.1,'d'}) -> 'true'\n42 P ets:info('t','heir') -> P.1\n43 P ets:give_away('t',P.1,'g') -> 'true'\n44 P ets:new('u',['bag']) -> #P.40\n45 P ets:delete(#P.40) -> 'true'\n46 P>P.1 brings {'a',1}\n47 P.1 receives {'a',1}\n48 P.1 ends 'normal'\n49 P ends 'normal'\n";
 
+// Each call of the process dictionary, and what they gave.
+const DICTIONARY: &str =
+    "module 'm' ['main'/0] attributes [] 'main'/0 = fun () -> let <A> = call 'erlang':'put'('b',1) in let <B> = call 'erlang':'put'('a',2) in let <C> = call 'erlang':'put'('b',3) in let <D> = call 'erlang':'get'() in let <E> = call 'erlang':'get'('a') in let <F> = call 'erlang':'get_keys'() in let <G> = call 'erlang':'get_keys'(3) in let <H> = call 'erlang':'erase'('a') in let <I> = call 'erlang':'erase'() in call 'erlang':'exit'({A,B,C,D,E,F,G,H,I,call 'erlang':'get'()}) end";
+
+// A dictionary whose list has as many nodes as a term may have, and one more key.
+const DICTIONARY_OF_2499: &str =
+    "module 'm' ['main'/0] attributes [] 'f'/1 = fun (N) -> case N of <0> when 'true' -> call 'erlang':'get'() <M> when 'true' -> do call 'erlang':'put'(M,M) apply 'f'/1(call 'erlang':'-'(M,1)) end 'main'/0 = fun () -> apply 'f'/1(2499) end";
+
+const DICTIONARY_OF_2500: &str =
+    "module 'm' ['main'/0] attributes [] 'f'/1 = fun (N) -> case N of <0> when 'true' -> call 'erlang':'get'() <M> when 'true' -> do call 'erlang':'put'(M,M) apply 'f'/1(call 'erlang':'-'(M,1)) end 'main'/0 = fun () -> apply 'f'/1(2500) end";
+
+// Modules whose first turn ends the first process, and the line that is written.
+const DICTIONARIES: [(&str, &str); 3] = [
+    (
+        DICTIONARY,
+        "1 P ends {'undefined','undefined',1,[{'a',2},{'b',3}],2,['a','b'],['b'],2,[{'b',3}],[]}\n",
+    ),
+    (DICTIONARY_OF_2499, "1 P ends 'normal'\n"),
+    (DICTIONARY_OF_2500, "1 P ends {'system_limit',[]}\n"),
+];
+
 // A module and a schedule, the lines that are written, the line of the refusal, and the status.
 const ROWS: [(&str, &str, &str, &str, u8); 31] = [
     (TABLE, TURNS, LINES, "", 0),
@@ -241,6 +262,18 @@ fn answers_byte_for_byte(rt: HostRuntime) -> Result<(), Fail> {
             assert_eq!(rt; line_of(alloc, &outcome)?.as_slice(), line.as_bytes());
             assert_eq!(rt; sink.bytes.as_slice(), lines.as_bytes());
         }
+    }
+    Ok(())
+}
+
+#[test]
+fn a_process_keeps_a_dictionary(rt: HostRuntime) -> Result<(), Fail> {
+    for (text, line) in DICTIONARIES {
+        let mut source = MemorySource::new(text.as_bytes());
+        let mut sink = MemorySink::with_room(rt.alloc(), 1000)?;
+        let outcome = run_replay(rt.alloc(), &mut source, "P", &mut sink);
+        assert_eq!(rt; outcome, Ok(Verdict::Done), "{text}");
+        assert_eq!(rt; sink.bytes.as_slice(), line.as_bytes());
     }
     Ok(())
 }

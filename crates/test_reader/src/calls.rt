@@ -94,8 +94,8 @@ fn reads_a_call_of_the_world_in_a_module_of_that_name(rt: HostRuntime) -> Result
     Ok(())
 }
 
-// Other numbers of arguments and other names, and calls of the world in guards.
-const FAULTS: [(&[u8], ReadFault); 17] = [
+// Other numbers of arguments and other names, and in guards calls of the world and of the process dictionary.
+const FAULTS: [(&[u8], ReadFault); 30] = [
     (
         b"module 'm' ['main'/0] attributes [] 'main'/0 = fun () -> call 'erlang':'spawn'(1,2) end",
         ReadFault::UnsupportedCall(57),
@@ -163,6 +163,58 @@ const FAULTS: [(&[u8], ReadFault); 17] = [
     (
         b"module 'm' ['main'/0] attributes [] 'main'/0 = fun () -> case 1 of <X> when let Y = call 'erlang':'whereis'(X) in 'true' -> 1 end end",
         ReadFault::EffectInGuard(84),
+    ),
+    (
+        b"module 'm' ['main'/0] attributes [] 'main'/0 = fun () -> call 'erlang':'put'(1) end",
+        ReadFault::UnsupportedCall(57),
+    ),
+    (
+        b"module 'm' ['main'/0] attributes [] 'main'/0 = fun () -> call 'erlang':'put'(1,2,3) end",
+        ReadFault::UnsupportedCall(57),
+    ),
+    (
+        b"module 'm' ['main'/0] attributes [] 'main'/0 = fun () -> call 'erlang':'get'(1,2) end",
+        ReadFault::UnsupportedCall(57),
+    ),
+    (
+        b"module 'm' ['main'/0] attributes [] 'main'/0 = fun () -> call 'erlang':'get_keys'(1,2) end",
+        ReadFault::UnsupportedCall(57),
+    ),
+    (
+        b"module 'm' ['main'/0] attributes [] 'main'/0 = fun () -> call 'erlang':'erase'(1,2) end",
+        ReadFault::UnsupportedCall(57),
+    ),
+    (
+        b"module 'm' ['main'/0] attributes [] 'main'/0 = fun () -> case 1 of <X> when call 'erlang':'put'(X,1) -> 1 end end",
+        ReadFault::EffectInGuard(76),
+    ),
+    (
+        b"module 'm' ['main'/0] attributes [] 'main'/0 = fun () -> case 1 of <X> when call 'erlang':'get'(X) -> 1 end end",
+        ReadFault::EffectInGuard(76),
+    ),
+    (
+        b"module 'm' ['main'/0] attributes [] 'main'/0 = fun () -> case 1 of <X> when call 'erlang':'get'() -> 1 end end",
+        ReadFault::EffectInGuard(76),
+    ),
+    (
+        b"module 'm' ['main'/0] attributes [] 'main'/0 = fun () -> case 1 of <X> when call 'erlang':'get_keys'() -> 1 end end",
+        ReadFault::EffectInGuard(76),
+    ),
+    (
+        b"module 'm' ['main'/0] attributes [] 'main'/0 = fun () -> case 1 of <X> when call 'erlang':'get_keys'(X) -> 1 end end",
+        ReadFault::EffectInGuard(76),
+    ),
+    (
+        b"module 'm' ['main'/0] attributes [] 'main'/0 = fun () -> case 1 of <X> when call 'erlang':'erase'(X) -> 1 end end",
+        ReadFault::EffectInGuard(76),
+    ),
+    (
+        b"module 'm' ['main'/0] attributes [] 'main'/0 = fun () -> case 1 of <X> when call 'erlang':'erase'() -> 1 end end",
+        ReadFault::EffectInGuard(76),
+    ),
+    (
+        b"module 'm' ['main'/0] attributes [] 'main'/0 = fun () -> receive <X> when call 'erlang':'get'(X) -> 1 after 0 -> 2 end",
+        ReadFault::EffectInGuard(74),
     ),
 ];
 

@@ -107,6 +107,20 @@ const OF_TABLES: [Row; 4] = [
     ),
 ];
 
+// Two processes put what they were told into their dictionaries, which begin empty, and send it to the first; that puts what
+// comes into its own, and keeps what it put before an error that it caught.
+const DICTIONARIES: &str =
+    "module 'm' ['main'/0,'c'/2] attributes [] 'main'/0 = fun () -> let <Me> = call 'erlang':'self'() in do catch do call 'erlang':'put'('n',1) call 'erlang':'error'('x') do call 'erlang':'spawn'('m','c',[Me,'a']) do call 'erlang':'spawn'('m','c',[Me,'b']) do receive <X> when 'true' -> call 'erlang':'put'('k',X) after 'infinity' -> 'x' do receive <Y> when 'true' -> call 'erlang':'put'('k',Y) after 'infinity' -> 'x' do call 'erlang':'make_ref'() call 'erlang':'exit'({call 'erlang':'get'('k'),call 'erlang':'get'('n')}) 'c'/2 = fun (To,M) -> let <Old> = call 'erlang':'put'('k',M) in do call 'erlang':'!'(To,M) call 'erlang':'exit'({Old,call 'erlang':'get'('k'),call 'erlang':'get'('n')}) end";
+
+const OF_DICTIONARIES: [Row; 4] = [
+    // what came last is kept; until the end the two orders differ in that alone
+    ("P P P.1 P.1>P P P.2 P.2>P P P P", "P ends {'b',1}"),
+    ("P P P.2 P.2>P P P.1 P.1>P P P P", "P ends {'a',1}"),
+    // a process has a dictionary of its own
+    ("P P P.1 P.1", "P.1 ends {'undefined','a','undefined'}"),
+    ("P P P.2 P.2", "P.2 ends {'undefined','b','undefined'}"),
+];
+
 // Whether this is the text of what is shown.
 fn is_told(alloc: Global, identity: &Identity, wanted: &str) -> Result<bool, WriteFault> {
     let mut sink = Output::new(Vec::new(alloc));
@@ -217,4 +231,9 @@ fn names_are_held_as_they_were_written_down(rt: HostRuntime) -> Result<(), Fail>
 #[test]
 fn calls_of_tables_are_refused_as_they_were_written_down(rt: HostRuntime) -> Result<(), Fail> {
     are_shown_and_found(&rt, rt.alloc(), TABLES, &OF_TABLES)
+}
+
+#[test]
+fn dictionaries_are_kept_as_they_were_written_down(rt: HostRuntime) -> Result<(), Fail> {
+    are_shown_and_found(&rt, rt.alloc(), DICTIONARIES, &OF_DICTIONARIES)
 }

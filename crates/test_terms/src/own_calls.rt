@@ -1,9 +1,11 @@
 // What the calls answer, row by row, from the rules of the language.
+mod dictionary;
 mod long;
 mod rows;
 mod words;
 
 use crate::term_words::Word;
+use core_pure_calls::Dictionary;
 use core_tree::{PURE_CALLS, PureCall};
 use rows::{COMPARISONS, EACH, KINDS, LISTS, NUMBERS, RAISING, Row, TUPLES};
 use std::alloc::Global;
@@ -11,9 +13,9 @@ use std::test::Fail;
 use test_support::same;
 use words::answered;
 
-// Checks that a call answers this.
+// Checks that a call of a process with an empty dictionary answers this.
 fn answers(alloc: Global, call: PureCall, words: &[Word], want: &str) -> Result<(), Fail> {
-    let text = answered(alloc, call, words)?;
+    let text = answered(alloc, &mut Dictionary::new(), call, words)?;
     same(text.as_slice(), want.as_bytes())
 }
 

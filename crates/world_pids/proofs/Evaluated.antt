@@ -5,13 +5,14 @@ use Rattle.std.specs.Prelude.{pos, Option, Some, None, nat_le, nat_lt, codes}
 use Rattle.core_calls.specs.declared.call.CallKind.{CallKind}
 use Rattle.core_pure_calls.specs.Answers.{Answer}
 use Rattle.core_pure_calls.specs.Answers as pure
-use Rattle.core_pure_calls.specs.Calls.{answer_of}
+use Rattle.core_pure_calls.specs.Calls.{answer_of, kept_by}
+use Rattle.core_pure_calls.specs.Dictionary.{Dictionary}
 use Rattle.core_pure_calls.specs.declared.outcome.Class.{Class}
 use Rattle.core_pure_calls.specs.declared.outcome.Class.TheVariants.{Error, Exit, Throw}
 use Rattle.core_semantics.specs.Applications.{definition, body_with, allowed, counted, applied, room, apply_of}
 use Rattle.core_semantics.specs.Ask.{Entry, first_function, reason_of, request_of, ask}
 use Rattle.core_semantics.specs.Asked.{Answered, Value, Raise, Message, TimedOut}
-use Rattle.core_semantics.specs.Evaluation.{State, before, name, Outcome, Yields, Raises, Stops, Setting, then_do, handled, one, node_limit, limited, limited_error, served, caught, caught_values, class_name, trace_of, begins_with, match_reason, limited_answer, class_in, raised_again, value_or_error, within, is_true, guarded, taken, as_one, no_clause, waits_with, timed, received, called_with, evaluate, evaluate_all, choose}
+use Rattle.core_semantics.specs.Evaluation.{State, before, name, Outcome, Yields, Raises, Stops, Setting, then_do, handled, one, node_limit, limited, limited_error, served, caught, caught_values, class_name, trace_of, begins_with, match_reason, limited_answer, keeping, class_in, raised_again, value_or_error, within, is_true, guarded, taken, as_one, no_clause, waits_with, timed, received, called_with, evaluate, evaluate_all, choose}
 use Rattle.core_stack.specs.Matching.{Environment, lookup, bound, text_of, is_number, is_nil, is_text, literal, and_then, match, match_each, match_items}
 use Rattle.core_tree.specs.Callee as callees
 use Rattle.core_tree.specs.Expression as trees
@@ -22,15 +23,19 @@ use Rattle.term_core.specs.Kinds.{is_the_atom, same_text}
 use Rattle.term_core.specs.Meaning.{Meaning, Int, Tuple, Nil, Cons, meanings_of, node_count, parts_of}
 use Rattle.term_core.specs.Term.{list_onto}
 use Rattle.world_pids.specs.Numbers.{IsNumbered}
-use Rattle.world_pids.proofs.PureAnswers.{pure_told}
-use Rattle.world_pids.proofs.Told.{IfThere, chosen, IsTold, EachTold, GivesTold, AllTold, AsksTold, tuple_told, parts_told, onto_told}
+use Rattle.world_pids.proofs.PureAnswers.{kept_told, pure_told}
+use Rattle.world_pids.proofs.Told.{IfThere, chosen, IsTold, EachTold, GivesTold, AllTold, KeptTold, AsksTold, tuple_told, parts_told, onto_told}
 
 module _ (n : ℕ) where
   -- ---- what an evaluation gives, and where it stops
 
+  -- what is still to come, and what is kept
+  abbrev Sound : State → Type 0
+  Sound s = AllTold n s.answers × KeptTold n s.dictionary
+
   abbrev Fine : Outcome → Type 0
-  Fine (Yields values s) = EachTold n values × AllTold n s.answers
-  Fine (Raises class reason s) = IsTold n reason × AllTold n s.answers
+  Fine (Yields values s) = EachTold n values × Sound s
+  Fine (Raises class reason s) = IsTold n reason × Sound s
   Fine (Stops request) = AsksTold n request
 
   -- all values of variables
@@ -46,16 +51,16 @@ module _ (n : ℕ) where
   -- ---- what goes on after an evaluation
 
   abbrev GoesOn : (List Meaning → State → Outcome) → Type 0
-  GoesOn go = (vs : List Meaning) (s : State) → EachTold n vs → AllTold n s.answers → Fine (go vs s)
+  GoesOn go = (vs : List Meaning) (s : State) → EachTold n vs → Sound s → Fine (go vs s)
 
   abbrev GoesOnWith : (Meaning → State → Outcome) → Type 0
-  GoesOnWith go = (v : Meaning) (s : State) → IsTold n v → AllTold n s.answers → Fine (go v s)
+  GoesOnWith go = (v : Meaning) (s : State) → IsTold n v → Sound s → Fine (go v s)
 
   abbrev GoesOnIn : (Environment → State → Outcome) → Type 0
-  GoesOnIn go = (env : Environment) (s : State) → InScope env → AllTold n s.answers → Fine (go env s)
+  GoesOnIn go = (env : Environment) (s : State) → InScope env → Sound s → Fine (go env s)
 
   abbrev GoesAfter : (State → Outcome) → Type 0
-  GoesAfter go = (s : State) → AllTold n s.answers → Fine (go s)
+  GoesAfter go = (s : State) → Sound s → Fine (go s)
 
   then_fine : (go : List Meaning → State → Outcome) (g : Outcome) → Fine g → GoesOn go → Fine (then_do g go)
   then_fine go (Yields vs s) h each = each vs s h.0 h.1
@@ -87,10 +92,10 @@ module _ (n : ℕ) where
 
   -- ---- values and exceptions
 
-  limited_fine : (m : Meaning) (s : State) → IsTold n m → AllTold n s.answers → Fine (limited m s)
+  limited_fine : (m : Meaning) (s : State) → IsTold n m → Sound s → Fine (limited m s)
   limited_fine m s h k = one_of (nat_le (node_count m) node_limit) _ _ ((h, tt), k) (tt, k)
 
-  limited_error_fine : (m : Meaning) (s : State) → IsTold n m → AllTold n s.answers → Fine (limited_error m s)
+  limited_error_fine : (m : Meaning) (s : State) → IsTold n m → Sound s → Fine (limited_error m s)
   limited_error_fine m s h k = one_of (nat_le (node_count m) node_limit) _ _ (h, k) (tt, k)
 
   as_one_told : (vs : List Meaning) → EachTold n vs → IsTold n (as_one vs)
@@ -98,7 +103,7 @@ module _ (n : ℕ) where
   as_one_told (v ∷ []) h = h.0
   as_one_told (v ∷ w ∷ vs) h = tuple_told n (v ∷ w ∷ vs) h
 
-  no_clause_fine : (vs : List Meaning) (s : State) → EachTold n vs → AllTold n s.answers → Fine (no_clause vs s)
+  no_clause_fine : (vs : List Meaning) (s : State) → EachTold n vs → Sound s → Fine (no_clause vs s)
   no_clause_fine vs s h k = limited_error_fine (Tuple (meanings_of (name (codes "case_clause") ∷ as_one vs ∷ []))) s (tt, (as_one_told vs h, tt)) k
 
   caught_fine : (class : Class) → GoesOnWith (caught class)
@@ -115,15 +120,15 @@ module _ (n : ℕ) where
   caught_told count class reason h =
       chosen (EachTold n) (nat_le count 2) (class_name class ∷ reason ∷ []) (class_name class ∷ reason ∷ trace_of class ∷ []) (class_told class, (h, tt)) (class_told class, (h, ((tt, (class_told class, tt)), tt)))
 
-  answer_fine : (answer : Answer) (s : State) → GivesTold n answer → AllTold n s.answers → Fine (limited_answer answer s)
+  answer_fine : (answer : Answer) (s : State) → GivesTold n answer → Sound s → Fine (limited_answer answer s)
   answer_fine (pure.Value value) s h k = limited_fine value s h k
   answer_fine (pure.Raised class reason) s h k = (h, k)
 
-  value_fine : (o : Option Meaning) (s : State) → IfThere (IsTold n) o → AllTold n s.answers → Fine (value_or_error o s)
+  value_fine : (o : Option Meaning) (s : State) → IfThere (IsTold n) o → Sound s → Fine (value_or_error o s)
   value_fine None s h k = (tt, k)
   value_fine (Some m) s h k = ((h, tt), k)
 
-  again_fine : (o : Option Class) (reason : Meaning) (s : State) → IsTold n reason → AllTold n s.answers → Fine (raised_again o reason s)
+  again_fine : (o : Option Class) (reason : Meaning) (s : State) → IsTold n reason → Sound s → Fine (raised_again o reason s)
   again_fine None reason s h k = (tt, k)
   again_fine (Some class) reason s h k = (h, k)
 
@@ -132,23 +137,23 @@ module _ (n : ℕ) where
 
   -- ---- answers
 
-  served_fine : (kind : CallKind) (arguments : List Meaning) → EachTold n arguments → (answers : List Answered) → AllTold n answers → Fine (served kind arguments answers)
-  served_fine kind arguments h [] k = h
-  served_fine kind arguments h (Value value ∷ later) k = ((k.0, tt), k.1)
-  served_fine kind arguments h (Raise reason ∷ later) k = (k.0, k.1)
-  served_fine kind arguments h (Message message ∷ later) k = served_fine kind arguments h later k.1
-  served_fine kind arguments h (TimedOut ∷ later) k = served_fine kind arguments h later k.1
+  served_fine : (kind : CallKind) (arguments : List Meaning) → EachTold n arguments → (d : Dictionary) → KeptTold n d → (answers : List Answered) → AllTold n answers → Fine (served kind arguments d answers)
+  served_fine kind arguments h d e [] k = h
+  served_fine kind arguments h d e (Value value ∷ later) k = ((k.0, tt), (k.1, e))
+  served_fine kind arguments h d e (Raise reason ∷ later) k = (k.0, (k.1, e))
+  served_fine kind arguments h d e (Message message ∷ later) k = served_fine kind arguments h d e later k.1
+  served_fine kind arguments h d e (TimedOut ∷ later) k = served_fine kind arguments h d e later k.1
 
   timed_fine : (o : Option Bool) (go : Bool → State → Outcome) → ((waits : Bool) → GoesAfter (go waits)) → GoesAfter (timed o go)
   timed_fine None go each s k = (tt, k)
   timed_fine (Some waits) go each s k = each waits s k
 
-  received_fine : (waits : Bool) (takes : Meaning → Bool) (go : Meaning → State → Outcome) (act : State → Outcome) → GoesOnWith go → GoesAfter act → (answers : List Answered) → AllTold n answers → Fine (received waits takes go act answers)
-  received_fine waits takes go act each last [] k = tt
-  received_fine waits takes go act each last (Message m ∷ later) k = each m (before later) k.0 k.1
-  received_fine waits takes go act each last (TimedOut ∷ later) k = one_of waits _ _ (received_fine waits takes go act each last later k.1) (last (before later) k.1)
-  received_fine waits takes go act each last (Value value ∷ later) k = received_fine waits takes go act each last later k.1
-  received_fine waits takes go act each last (Raise reason ∷ later) k = received_fine waits takes go act each last later k.1
+  received_fine : (waits : Bool) (takes : Meaning → Bool) (go : Meaning → State → Outcome) (act : State → Outcome) → GoesOnWith go → GoesAfter act → (d : Dictionary) → KeptTold n d → (answers : List Answered) → AllTold n answers → Fine (received waits takes go act d answers)
+  received_fine waits takes go act each last d e [] k = tt
+  received_fine waits takes go act each last d e (Message m ∷ later) k = each m (before d later) k.0 (k.1, e)
+  received_fine waits takes go act each last d e (TimedOut ∷ later) k = one_of waits _ _ (received_fine waits takes go act each last d e later k.1) (last (before d later) (k.1, e))
+  received_fine waits takes go act each last d e (Value value ∷ later) k = received_fine waits takes go act each last d e later k.1
+  received_fine waits takes go act each last d e (Raise reason ∷ later) k = received_fine waits takes go act each last d e later k.1
 
   -- ---- variables and patterns
 
@@ -204,8 +209,8 @@ module _ (n : ℕ) where
     here = record { own = own; apply = apply }
 
     called_fine : (callee : Callee) → GoesOn (called_with here callee)
-    called_fine (callees.World kind) vs s h k = served_fine kind vs h s.answers k
-    called_fine (callees.Pure kind) vs s h k = answer_fine (answer_of own kind vs) s (pure_told n own kind vs mine h) k
+    called_fine (callees.World kind) vs s h k = served_fine kind vs h s.dictionary k.1 s.answers k.0
+    called_fine (callees.Pure kind) vs s h k = answer_fine (answer_of own s.dictionary kind vs) (keeping (kept_by kind vs s.dictionary) s) (pure_told n own s.dictionary kind vs mine k.1 h) (k.0, kept_told n kind vs s.dictionary h k.1)
     called_fine (callees.Exported f) vs s h k = fine f vs s h k
     called_fine (callees.Defined named) vs s h k = fine named.function vs s h k
     called_fine callees.MatchFail [] s h k = (tt, k)
@@ -235,19 +240,19 @@ module _ (n : ℕ) where
       evaluate_fine (trees.Case at t cs) env s h k = then_fine _ _ (evaluate_fine t env s h k) (λ vs s' i l. choose_fine cs vs env s' i h l)
       evaluate_fine (trees.Receive at cs timeout action) env s h k =
           then_fine _ _ (evaluate_fine timeout env s h k)
-          (one_fine _ (λ v s' i l. timed_fine (waits_with v) _ (λ waits s'' o. received_fine waits _ _ _ (λ m s3 j q. choose_fine cs (m ∷ []) env s3 (j, tt) h q) (λ s3 q. evaluate_fine action env s3 h q) s''.answers o) s' l))
+          (one_fine _ (λ v s' i l. timed_fine (waits_with v) _ (λ waits s'' o. received_fine waits _ _ _ (λ m s3 j q. choose_fine cs (m ∷ []) env s3 (j, tt) h q) (λ s3 q. evaluate_fine action env s3 h q) s''.dictionary o.1 s''.answers o.0) s' l))
       evaluate_fine (trees.Try at t variables body caught_variables handler) env s h k =
           handled_fine _ _ _ (evaluate_fine t env s h k)
           (λ vs s' i l. within_fine (bound variables vs []) env _ (bound_told variables vs [] i tt) h (λ inner s'' j o. evaluate_fine body inner s'' j o) s' l)
           (λ class reason s' i l. within_fine (bound caught_variables (caught_values (length caught_variables) class reason) []) env _ (bound_told caught_variables (caught_values (length caught_variables) class reason) [] (caught_told (length caught_variables) class reason i) tt) h (λ inner s'' j o. evaluate_fine handler inner s'' j o) s' l)
       evaluate_fine (trees.Catch at t) env s h k = handled_fine Yields caught _ (evaluate_fine t env s h k) (λ vs s' i l. (i, l)) caught_fine
 
-      all_fine : (ts : Trees) (env : Environment) (done : List Meaning) (s : State) → InScope env → EachTold n done → AllTold n s.answers → Fine (evaluate_all here ts env done s)
+      all_fine : (ts : Trees) (env : Environment) (done : List Meaning) (s : State) → InScope env → EachTold n done → Sound s → Fine (evaluate_all here ts env done s)
       all_fine trees.NoMore env done s h d k = (d, k)
       all_fine (trees.Also t ts) env done s h d k =
           then_fine _ _ (evaluate_fine t env s h k) (one_fine _ (λ v s' i l. all_fine ts env (done ++ v ∷ []) s' h (all-append (IsTold n) done (v ∷ []) d (i, tt)) l))
 
-      choose_fine : (cs : Clauses) (values : List Meaning) (env : Environment) (s : State) → EachTold n values → InScope env → AllTold n s.answers → Fine (choose here cs values env s)
+      choose_fine : (cs : Clauses) (values : List Meaning) (env : Environment) (s : State) → EachTold n values → InScope env → Sound s → Fine (choose here cs values env s)
       choose_fine trees.NoClause values env s i h k = no_clause_fine values s i k
       choose_fine (trees.Clause patterns guard body others) values env s i h k =
           taken_fine (match_each (patterns_of patterns) values []) env _ _ (each_told (patterns_of patterns) values [] i tt) h
@@ -279,4 +284,4 @@ module _ (n : ℕ) where
 
     pub asks_what_it_was_told : (e : Entry) (answers : List Answered) → EachTold n e.arguments → AllTold n answers → AsksTold n (ask m own e answers)
     asks_what_it_was_told e answers h k =
-        requested _ (body_fine own mine (apply_of m own) (λ f vs s. applications_fine (suc (room s)) f vs s) (first_function m own e) e.arguments (before answers) h k)
+        requested _ (body_fine own mine (apply_of m own) (λ f vs s. applications_fine (suc (room s)) f vs s) (first_function m own e) e.arguments (before [] answers) h (k, tt))

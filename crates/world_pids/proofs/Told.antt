@@ -7,6 +7,7 @@ use Rattle.term_core.proofs.Pieces.{all-append}
 use Rattle.term_core.specs.Meaning.{Meaning, Meanings, Int, Atom, Tuple, Nil, Cons, NoMore, Also, meanings_of, parts_of}
 use Rattle.term_core.specs.Meaning as terms
 use Rattle.term_core.specs.Term.{list_onto}
+use Rattle.core_pure_calls.specs.Dictionary.{Dictionary}
 use Rattle.core_pure_calls.specs.Lists.{heads_of}
 use Rattle.core_pure_calls.specs.Answers as pure
 use Rattle.core_semantics.specs.Asked.{Asked, Call, Receive, End, Runaway, Answered, Value, Raise, Message, TimedOut}
@@ -83,6 +84,10 @@ module _ (n : ℕ) where
   pub heads_told : (m : Meaning) → IsTold m → EachTold (heads_of m)
   heads_told (Cons head tail) h = (h.0, heads_told tail h.1)
   heads_told m h = tt
+
+  -- all keys and values of a dictionary
+  abbrev pub KeptTold : Dictionary → Type 0
+  KeptTold d = AllByRecursion (λ (e : Meaning × Meaning). IsTold e.0 × IsTold e.1) d
 
   -- ---- answers and requests
 

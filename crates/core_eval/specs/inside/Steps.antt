@@ -12,8 +12,8 @@ use Rattle.core_eval.specs.declared.control.Halt.TheVariants as halts
 use Rattle.core_eval.specs.declared.control.Pause.{Pause}
 use Rattle.core_eval.specs.declared.control.Pause.TheVariants as pauses
 use Rattle.core_stack.specs.Matching.{Environment, bound, match_each}
-use Rattle.core_semantics.specs.Evaluation.{State, before, Outcome, Yields, Raises, Setting, then_do, called, choose, guarded, is_true, limited_answer, within, evaluate, evaluate_all, receive, timed, waits_with, at_rest, is_taken}
-use Rattle.core_pure_calls.specs.Calls.{answer_of}
+use Rattle.core_semantics.specs.Evaluation.{State, before, Outcome, Yields, Raises, Setting, then_do, called, by_itself, choose, guarded, is_true, keeping, within, evaluate, evaluate_all, receive, timed, waits_with, at_rest, is_taken}
+use Rattle.core_pure_calls.specs.Dictionary.{Dictionary}
 use Rattle.core_semantics.specs.Applications.{body_with}
 use Rattle.core_semantics.specs.Ask.{request_of}
 use Rattle.core_semantics.specs.Asked.{Answered}
@@ -30,7 +30,7 @@ going setting holes (Evaluate expression) s = through setting holes (evaluate se
 going setting holes (Return value) s = through setting holes (Yields (meaning_of value ∷ []) s)
 going setting holes (Values values) s = through setting holes (Yields values s)
 going setting holes (Raise class reason) s = through setting holes (Raises class (meaning_of reason) s)
-going setting holes (Answer kind arguments) s = through setting holes (limited_answer (answer_of setting.own kind arguments) s)
+going setting holes (Answer kind arguments) s = through setting holes (by_itself setting.own kind arguments s)
 going setting holes (Ask kind arguments) s = through setting holes (called kind arguments s)
 going setting holes (Wait waits) s = waiting setting (receive_on holes) waits s
 going setting holes (Apply function arguments) s = through setting holes (setting.apply function.now arguments s)
@@ -55,6 +55,10 @@ abbrev pub paused : Setting → List Hole → Pause → State → Outcome
 paused setting holes (pauses.Halt halt) s = halted setting holes halt s
 paused setting holes (pauses.Application function arguments) s = through setting holes (setting.apply function.now arguments s)
 
+-- where a stack that goes on like this with a dictionary stops, or is about to apply a function, in a process with this pid
+abbrev pub ComesTo : List ℕ → List Hole → Dictionary → Control → List Hole → Dictionary → Pause → Type 0
+ComesTo own old kept control new keeps pause = (setting : Setting) → setting.own ≡ own → (s : State) → paused setting new pause (keeping keeps s) ≡ going setting old control (keeping kept s)
+
 -- whether the evaluation gave 'true' and nothing else
 abbrev pub gave_true : Pause → Bool
 gave_true (pauses.Halt (halts.Values values)) = is_true values
@@ -72,12 +76,12 @@ stands_in holes told.Runaway = None
 
 -- with the answer to a request a stack goes on like this; where the answer does not fit, it stays as it is
 abbrev pub Answers : List Hole → List Hole → Told → Answered → Option Control → Type 0
-Answers old new request answer None = (new ≡ old) × ((setting : Setting) (later : List Answered) → standing setting old request (answer ∷ later) ≡ standing setting old request later)
-Answers old new request answer (Some next) = (setting : Setting) (later : List Answered) → standing setting old request (answer ∷ later) ≡ request_of (going setting new next (before later))
+Answers old new request answer None = (new ≡ old) × ((setting : Setting) (d : Dictionary) (later : List Answered) → standing setting old d request (answer ∷ later) ≡ standing setting old d request later)
+Answers old new request answer (Some next) = (setting : Setting) (d : Dictionary) (later : List Answered) → standing setting old d request (answer ∷ later) ≡ request_of (going setting new next (before d later))
 
--- a process that goes on like this asks this next, whatever it is answered later, and its new stack waits for the answer
-abbrev pub AsksNext : Setting → List Hole → Control → List Hole → Told → Type 0
-AsksNext setting old control new request = (answers : List Answered) → standing setting new request answers ≡ request_of (going setting old control (before answers))
+-- a process that goes on like this with a dictionary asks this next, whatever it is answered later, and its new stack and dictionary wait for the answer
+abbrev pub AsksNext : Setting → List Hole → Dictionary → Control → List Hole → Dictionary → Told → Type 0
+AsksNext setting old kept control new keeps request = (answers : List Answered) → standing setting new keeps request answers ≡ request_of (going setting old control (before kept answers))
 
 -- whether a message matches a clause whose guard holds
 abbrev pub is_selected_by : Setting → Environment → ClauseTree → Meaning → Bool

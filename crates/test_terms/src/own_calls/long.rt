@@ -1,6 +1,6 @@
 // Lists of 300,000 items.
 use super::words::own;
-use core_pure_calls::{Outcome, answer};
+use core_pure_calls::{Dictionary, Outcome, answer};
 use core_tree::PureCall;
 use std::alloc::{AllocError, Global};
 use std::test::Fail;
@@ -19,7 +19,7 @@ fn numbers(alloc: Global) -> Result<Term, AllocError> {
 
 // The value of a call, or nil where it raises.
 fn value(alloc: Global, call: PureCall, arguments: Terms) -> Result<Term, AllocError> {
-    match answer(alloc, &own(alloc)?, call, arguments)? {
+    match answer(alloc, &own(alloc)?, &mut Dictionary::new(), call, arguments)? {
         Outcome::Value(term) => Ok(term),
         Outcome::Raised(_, _) => Ok(Term::Nil),
     }

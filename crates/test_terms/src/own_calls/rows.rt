@@ -11,7 +11,7 @@ const REFERENCE: Word = Ref(&[1], 2);
 pub(crate) type Row = (PureCall, &'static [Word], &'static str);
 
 // Each call once, in the order of `PURE_CALLS`.
-pub(crate) const EACH: [Row; 55] = [
+pub(crate) const EACH: [Row; 62] = [
     (PureCall::Add, &[Int(1), Int(2)], "3"),
     (PureCall::Subtract, &[Int(1), Int(2)], "-1"),
     (PureCall::Multiply, &[Int(3), Int(-4)], "-12"),
@@ -78,6 +78,13 @@ pub(crate) const EACH: [Row; 55] = [
     (PureCall::TupleToList, &[Int(1), Int(2), Tuple(2)], "[1,2]"),
     (PureCall::ListToTuple, &[Int(1), Int(2), List(2)], "{1,2}"),
     (PureCall::OwnPid, &[], "P.1"),
+    (PureCall::Put, &[Name("k"), Int(1)], "'undefined'"),
+    (PureCall::Get, &[Name("k")], "'undefined'"),
+    (PureCall::GetAll, &[], "[]"),
+    (PureCall::GetKeys, &[], "[]"),
+    (PureCall::GetKeysOf, &[Int(1)], "[]"),
+    (PureCall::Erase, &[Name("k")], "'undefined'"),
+    (PureCall::EraseAll, &[], "[]"),
     (PureCall::Error, &[Name("a")], "error 'a'"),
     (
         PureCall::ErrorWith,

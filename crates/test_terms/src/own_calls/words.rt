@@ -2,7 +2,7 @@
 ghost use Rattle.std.specs.Prelude.{◌≡◌, false};
 
 use crate::term_words::{Word, pid, terms};
-use core_pure_calls::{Class, Outcome, answer};
+use core_pure_calls::{Class, Dictionary, Outcome, answer};
 use core_tree::PureCall;
 use std::alloc::{AllocError, Global};
 use std::test::Fail;
@@ -52,9 +52,14 @@ fn text_of(alloc: Global, outcome: &Outcome) -> Result<Vec<u8>, WriteFault> {
     Ok(sink.writer)
 }
 
-// What a call of the process `P.1` answers to the terms that the words make.
-pub(crate) fn answered(alloc: Global, call: PureCall, words: &[Word]) -> Result<Vec<u8>, Fail> {
+// What a call of the process `P.1` with this dictionary answers to the terms that the words make.
+pub(crate) fn answered(
+    alloc: Global,
+    dictionary: &mut Dictionary,
+    call: PureCall,
+    words: &[Word],
+) -> Result<Vec<u8>, Fail> {
     let pid = own(alloc)?;
-    let outcome = answer(alloc, &pid, call, terms(alloc, words)?)?;
+    let outcome = answer(alloc, &pid, dictionary, call, terms(alloc, words)?)?;
     Ok(text_of(alloc, &outcome)?)
 }

@@ -13,6 +13,7 @@ returns c = λ e modules.
     (ap is_spent (sym c.self.view_is) ∙ c.if-self.false)
     (ap is_spent (sym c.other.view_is) ∙ c.if-other.false)
     (ap (λ (m : Standing). m.own) (sym c.self.view_is) ∙ pids ∙ ap (λ (m : Standing). m.own) c.other.view_is)
+    (ap (λ (m : Standing). m.dictionary) (sym c.self.view_is) ∙ c.is_same-2.ensures c.if-not-is_same-2.false ∙ ap (λ (m : Standing). m.dictionary) c.other.view_is)
     (ap (λ (m : Standing). m.told) (sym c.self.view_is) ∙ c.is_same.ensures c.if-not-is_same.false ∙ ap (λ (m : Standing). m.told) c.other.view_is)
-    (ap (λ (m : Standing). bare_holes m.holes) (sym c.self.view_is) ∙ c.is_same-2.ensures e ∙ ap (λ (m : Standing). bare_holes m.holes) c.other.view_is)
+    (ap (λ (m : Standing). bare_holes m.holes) (sym c.self.view_is) ∙ c.is_same-3.ensures e ∙ ap (λ (m : Standing). bare_holes m.holes) c.other.view_is)
     modules

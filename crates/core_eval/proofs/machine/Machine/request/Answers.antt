@@ -7,4 +7,4 @@ use Rattle.core_eval.proofs.Stops.{standing-none}
 use Rattle.core_eval.proofs.machine.Machine.request.Goals as goal
 
 pub returns : goal.returns
-returns c = sym (standing-none (setting_of c.self.inside.program.now c.self.inside.pid) c.self.inside.stack (told_by c.self.inside.request)) ∙ ap (λ m. told (stands_at m)) c.self.view_is
+returns c = sym (standing-none (setting_of c.self.inside.program.now c.self.inside.pid) c.self.inside.stack c.self.inside.dictionary (told_by c.self.inside.request)) ∙ ap (λ m. told (stands_at m)) c.self.view_is

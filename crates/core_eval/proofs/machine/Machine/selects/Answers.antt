@@ -13,10 +13,10 @@ pub returns-in-Some-clause-selected : goal.returns-in-Some-clause-selected
 returns-in-Some-clause-selected c =
     let at = c.args.self.now in
     let same : c.in-Some.receive.now.1 ≡ c.as_slice-clauses.result.now = search rules in
-    answers_as c.selects.result at.program at.own at.holes at.told (meaning_of c.args.message.now) c.as_slice-clauses.result.now (ap Some (sym same) ∙ c.in-Some.ensures)
+    answers_as c.selects.result at.program at.own at.holes at.dictionary at.told (meaning_of c.args.message.now) c.as_slice-clauses.result.now (ap Some (sym same) ∙ c.in-Some.ensures)
     (subst (λ (v : Standing). IfOk c.selects.result (λ found. (m : ModuleTree) → found ≡ selects (setting_of m v.own) (clauses_of c.as_slice-clauses.result.now) (scope v.holes) (meaning_of c.args.message.now))) c.self.view_is c.selects.ensures)
 
 pub returns-in-None-clause-selected : goal.returns-in-None-clause-selected
 returns-in-None-clause-selected c =
     let at = c.args.self.now in
-    takes_as (setting_of at.program at.own) at.holes at.told (meaning_of c.args.message.now) None (c.in-None.ensures)
+    takes_as (setting_of at.program at.own) at.holes at.dictionary at.told (meaning_of c.args.message.now) None (c.in-None.ensures)

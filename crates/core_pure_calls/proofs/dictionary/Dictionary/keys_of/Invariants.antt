@@ -1,0 +1,8 @@
+use Rattle.std.proofs.Common.{◌≡◌, ◌++◌, drop, map}
+use Rattle.term_core.specs.Term.{meaning_of}
+use Rattle.core_pure_calls.specs.inside.Entries.{entry_of}
+use Rattle.core_pure_calls.proofs.dictionary.Dictionary.keys_of.Given as goal
+
+-- the keys, with those of the entries that are left, are all
+abbrev pub invariant-loop-entry : goal.invariant-loop-entry
+invariant-loop-entry l = map meaning_of l.keys.items ++ map (λ e. e.0) (map entry_of (drop l.entry-index l.entry-items)) ≡ map (λ e. e.0) l.self
