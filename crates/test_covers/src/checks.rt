@@ -3,7 +3,8 @@ use program_runs::{RunFault, Verdict, run_check, status, write_fault};
 use search_expansion::Unwatched;
 use std::alloc::{AllocError, Global};
 use std::test::Fail;
-use test_support::{MemorySink, MemorySource};
+use term_core::{Atom, Term};
+use test_support::{MemorySink, MemorySource, same};
 use tree_excuses::Excuses;
 use world_identities::Flags;
 
@@ -11,338 +12,333 @@ use world_identities::Flags;
 pub(crate) const TWO_END: &str =
     "module 'm' ['main'/0,'c'/0] attributes [] 'main'/0 = fun () -> do call 'erlang':'spawn'('m','c',[]) 'x' 'c'/0 = fun () -> 'x' end\n";
 
-/// A process that applies itself for ever.
-pub(crate) const RUNAWAY: &str =
-    "module 'm' ['main'/0] attributes [] 'main'/0 = fun () -> apply 'main'/0() end\n";
+// Blocks, with a line `----` between them. The first line of a block says what it is about. Below that is a module, up
+// to the line break before the first `$ `. After each `$ ` are the words of a check, and after ` # ` is a remark.
+// Below them is what follows the module, up to `<end>`, and below that what the check tells: what it writes, then its
+// status, and then the line of its refusal where there is one. A line that ends with a blank has `\x20` there.
+const CHECKS: &str = "# A process spawns another, and both end.
+module 'm' ['main'/0,'c'/0] attributes [] 'main'/0 = fun () -> do call 'erlang':'spawn'('m','c',[]) 'x' 'c'/0 = fun () -> 'x' end
 
-// A process that ends at once.
-const IDLE: &str = "module 'm' ['main'/0] attributes [] 'main'/0 = fun () -> 'ok' end\n";
+$ check --depth 3
+%%cover
+P
+P P.1
+P.1
 
-/// A process reads a private table of another, which is refused and caught.
-pub(crate) const PRIVATE: &str =
-    "module 'm' ['main'/0,'c'/0] attributes [] 'main'/0 = fun () -> do call 'ets':'new'('t',['named_table','private']) call 'erlang':'spawn'('m','c',[]) 'c'/0 = fun () -> try call 'ets':'lookup'('t','a') of <X> -> X catch <K,R> -> 'none' end\n";
 
-/// A process that waits for ever.
-pub(crate) const WAITING: &str =
-    "module 'm' ['main'/0] attributes [] 'main'/0 = fun () -> receive <X> when 'true' -> X after 'infinity' -> 'x' end\n";
+<end>
+cover good to depth 3
+status 0
+$ check --depth 3
+%%cover
+P
+P.1 P
+P
 
-// A process sends to itself and takes that; another one also sends to it.
-const BEHIND: &str =
-    "module 'm' ['main'/0,'c'/1] attributes [] 'main'/0 = fun () -> let <S> = call 'erlang':'self'() in do call 'erlang':'spawn'('m','c',[S]) do call 'erlang':'!'(S,'x') receive <X> when 'true' -> X after 'infinity' -> 'true' 'c'/1 = fun (To) -> call 'erlang':'!'(To,'y') end\n";
 
-// A module, what follows it, the depth, whether a deadlock is allowed and access is strict, what is written, the line
-// of the refusal, and the status.
-const ROWS: [(&str, &str, u64, bool, bool, &str, &str, u8); 30] = [
-    // the delivery sleeps after the receive that takes a message which is there
-    (
-        BEHIND,
-        "%%cover\nP\nP P.1\nP P.1\nP P.1\nP.1\n\nP P.1 P.1>P\n\n\n\nP.1 P.1>P\nP.1>P\n\n\nP.1 P.1>P\nP.1>P\nP\n\nP\nP\n\n",
-        5,
-        false,
-        false,
-        "cover good to depth 5\n",
-        "",
-        0,
-    ),
-    (
-        TWO_END,
-        "%%cover\nP\nP P.1\nP.1\n\n\n",
-        3,
-        false,
-        false,
-        "cover good to depth 3\n",
-        "",
-        0,
-    ),
-    (
-        TWO_END,
-        "%%cover\nP\nP.1 P\nP\n\n\n",
-        3,
-        false,
-        false,
-        "cover good to depth 3\n",
-        "",
-        0,
-    ),
-    // a step is taken that sleeps
-    (
-        TWO_END,
-        "%%cover\nP\nP P.1\nP.1\n\nP\n\n",
-        3,
-        false,
-        false,
-        "cover good to depth 3\n",
-        "",
-        0,
-    ),
-    (
-        TWO_END,
-        "%%cover\nP\nP\nP.1\n\n",
-        3,
-        false,
-        false,
-        "",
-        "cover: 1 Missing at line 2\n",
-        2,
-    ),
-    (
-        TWO_END,
-        "%%cover\nP\nP P\n",
-        3,
-        false,
-        false,
-        "",
-        "cover: 2 Strange at line 2\n",
-        2,
-    ),
-    (
-        TWO_END,
-        "%%cover\nP\nP P.7\n",
-        3,
-        false,
-        false,
-        "",
-        "cover: 2 Strange at line 2\n",
-        2,
-    ),
-    (
-        TWO_END,
-        "%%cover\nP\n",
-        3,
-        false,
-        false,
-        "",
-        "cover: 3 Short at line 2\n",
-        2,
-    ),
-    (
-        TWO_END,
-        "%%cover\nP\nP P.1\nP.1\n\n\n\n",
-        3,
-        false,
-        false,
-        "",
-        "cover: 4 Long at line 6\n",
-        2,
-    ),
-    (
-        TWO_END,
-        "%%cover\np\n",
-        3,
-        false,
-        false,
-        "",
-        "cover: 6 BadLine at line 1\n",
-        2,
-    ),
-    (
-        TWO_END,
-        "%%cover\nP \n",
-        3,
-        false,
-        false,
-        "",
-        "cover: 6 BadLine at line 1\n",
-        2,
-    ),
-    // a last line without its end counts where it is not empty
-    (
-        TWO_END,
-        "%%cover\nP\nP P.1\nP.1\n\n\nP",
-        3,
-        false,
-        false,
-        "",
-        "cover: 4 Long at line 6\n",
-        2,
-    ),
-    (
-        IDLE,
-        "%%cover\nP",
-        1,
-        false,
-        false,
-        "",
-        "cover: 3 Short at line 2\n",
-        2,
-    ),
-    (
-        RUNAWAY,
-        "%%cover\nP\n\n",
-        1,
-        false,
-        false,
-        "",
-        "cover: 5 ErrorFound at line 2\n",
-        2,
-    ),
-    (
-        IDLE,
-        "%%cover\nP\n",
-        0,
-        false,
-        false,
-        "",
-        "cover: 2 Strange at line 1\n",
-        2,
-    ),
-    (
-        IDLE,
-        "%%cover\n\n",
-        0,
-        false,
-        false,
-        "cover good to depth 0\n",
-        "",
-        0,
-    ),
-    // no mark, and a line that is no mark
-    (
-        IDLE,
-        "",
-        1,
-        false,
-        false,
-        "",
-        "cover: 3 Short at line 1\n",
-        2,
-    ),
-    (
-        IDLE,
-        "%%cover \n",
-        1,
-        false,
-        false,
-        "",
-        "cover: 3 Short at line 1\n",
-        2,
-    ),
-    // so what follows it is part of the module
-    (
-        IDLE,
-        "%%cover \nP\n\n",
-        1,
-        false,
-        false,
-        "",
-        "input: 2 Expected at 75\n",
-        2,
-    ),
-    (
-        IDLE,
-        "%%cover",
-        1,
-        false,
-        false,
-        "",
-        "cover: 3 Short at line 1\n",
-        2,
-    ),
-    // the module goes before the cover
-    (
-        "module 'm",
-        "\n%%cover\np\n",
-        1,
-        false,
-        false,
-        "",
-        "input: 1 BadToken at 7\n",
-        2,
-    ),
-    (
-        "",
-        "%%cover\np\n",
-        1,
-        false,
-        false,
-        "",
-        "input: 2 Expected at 0\n",
-        2,
-    ),
-    // a second mark is a line of the cover
-    (
-        IDLE,
-        "%%cover\n%%cover\n",
-        1,
-        false,
-        false,
-        "",
-        "cover: 6 BadLine at line 1\n",
-        2,
-    ),
-    // what counts as an error
-    (
-        PRIVATE,
-        "%%cover\nP\nP\nP P.2\n\n\n",
-        3,
-        false,
-        false,
-        "cover good to depth 3\n",
-        "",
-        0,
-    ),
-    (
-        PRIVATE,
-        "%%cover\nP\nP\nP P.2\n\n\n",
-        3,
-        false,
-        true,
-        "",
-        "cover: 5 ErrorFound at line 5\n",
-        2,
-    ),
-    (
-        WAITING,
-        "%%cover\n\n",
-        1,
-        false,
-        false,
-        "",
-        "cover: 5 ErrorFound at line 1\n",
-        2,
-    ),
-    (
-        WAITING,
-        "%%cover\n\n",
-        1,
-        true,
-        false,
-        "cover good to depth 1\n",
-        "",
-        0,
-    ),
-    // an error of the node goes before a step that cannot be taken, and that before one that is missing
-    (
-        WAITING,
-        "%%cover\nP\n",
-        1,
-        false,
-        false,
-        "",
-        "cover: 5 ErrorFound at line 1\n",
-        2,
-    ),
-    (
-        TWO_END,
-        "%%cover\nP\nP.7\n",
-        3,
-        false,
-        false,
-        "",
-        "cover: 2 Strange at line 2\n",
-        2,
-    ),
-    (
-        WAITING,
-        "%%cover\nx\n",
-        1,
-        false,
-        false,
-        "",
-        "cover: 6 BadLine at line 1\n",
-        2,
-    ),
-];
+<end>
+cover good to depth 3
+status 0
+$ check --depth 3 # a step is taken that sleeps
+%%cover
+P
+P P.1
+P.1
+
+P
+
+<end>
+cover good to depth 3
+status 0
+$ check --depth 3
+%%cover
+P
+P
+P.1
+
+<end>
+status 2
+cover: 1 Missing at line 2
+$ check --depth 3
+%%cover
+P
+P P
+<end>
+status 2
+cover: 2 Strange at line 2
+$ check --depth 3
+%%cover
+P
+P P.7
+<end>
+status 2
+cover: 2 Strange at line 2
+$ check --depth 3
+%%cover
+P
+<end>
+status 2
+cover: 3 Short at line 2
+$ check --depth 3
+%%cover
+P
+P P.1
+P.1
+
+
+
+<end>
+status 2
+cover: 4 Long at line 6
+$ check --depth 3
+%%cover
+p
+<end>
+status 2
+cover: 6 BadLine at line 1
+$ check --depth 3
+%%cover
+P\x20
+<end>
+status 2
+cover: 6 BadLine at line 1
+$ check --depth 3 # a last line without its end counts where it is not empty
+%%cover
+P
+P P.1
+P.1
+
+
+P<end>
+status 2
+cover: 4 Long at line 6
+$ check --depth 3 # a step that cannot be taken goes before one that is missing
+%%cover
+P
+P.7
+<end>
+status 2
+cover: 2 Strange at line 2
+----
+# A process sends to itself and takes that; another one also sends to it. The delivery sleeps after the receive that takes a message which is there.
+module 'm' ['main'/0,'c'/1] attributes [] 'main'/0 = fun () -> let <S> = call 'erlang':'self'() in do call 'erlang':'spawn'('m','c',[S]) do call 'erlang':'!'(S,'x') receive <X> when 'true' -> X after 'infinity' -> 'true' 'c'/1 = fun (To) -> call 'erlang':'!'(To,'y') end
+
+$ check --depth 5
+%%cover
+P
+P P.1
+P P.1
+P P.1
+P.1
+
+P P.1 P.1>P
+
+
+
+P.1 P.1>P
+P.1>P
+
+
+P.1 P.1>P
+P.1>P
+P
+
+P
+P
+
+<end>
+cover good to depth 5
+status 0
+----
+# A process that ends at once.
+module 'm' ['main'/0] attributes [] 'main'/0 = fun () -> 'ok' end
+
+$ check --depth 1
+%%cover
+P<end>
+status 2
+cover: 3 Short at line 2
+$ check --depth 0
+%%cover
+P
+<end>
+status 2
+cover: 2 Strange at line 1
+$ check --depth 0
+%%cover
+
+<end>
+cover good to depth 0
+status 0
+$ check --depth 1 # no mark
+<end>
+status 2
+cover: 3 Short at line 1
+$ check --depth 1 # a line that is no mark
+%%cover\x20
+<end>
+status 2
+cover: 3 Short at line 1
+$ check --depth 1 # what follows such a line is part of the module
+%%cover\x20
+P
+
+<end>
+status 2
+input: 2 Expected at 75
+$ check --depth 1
+%%cover<end>
+status 2
+cover: 3 Short at line 1
+$ check --depth 1 # a second mark is a line of the cover
+%%cover
+%%cover
+<end>
+status 2
+cover: 6 BadLine at line 1
+----
+# A process that applies itself for ever.
+module 'm' ['main'/0] attributes [] 'main'/0 = fun () -> apply 'main'/0() end
+
+$ check --depth 1
+%%cover
+P
+
+<end>
+status 2
+cover: 5 ErrorFound at line 2
+----
+# A process reads a private table of another, which is refused and caught.
+module 'm' ['main'/0,'c'/0] attributes [] 'main'/0 = fun () -> do call 'ets':'new'('t',['named_table','private']) call 'erlang':'spawn'('m','c',[]) 'c'/0 = fun () -> try call 'ets':'lookup'('t','a') of <X> -> X catch <K,R> -> 'none' end
+
+$ check --depth 3
+%%cover
+P
+P
+P P.2
+
+
+<end>
+cover good to depth 3
+status 0
+$ check --depth 3 --strict-access
+%%cover
+P
+P
+P P.2
+
+
+<end>
+status 2
+cover: 5 ErrorFound at line 5
+----
+# A process that waits for ever.
+module 'm' ['main'/0] attributes [] 'main'/0 = fun () -> receive <X> when 'true' -> X after 'infinity' -> 'x' end
+
+$ check --depth 1
+%%cover
+
+<end>
+status 2
+cover: 5 ErrorFound at line 1
+$ check --depth 1 --allow-deadlock
+%%cover
+
+<end>
+cover good to depth 1
+status 0
+$ check --depth 1 # an error of the node goes before a step that cannot be taken
+%%cover
+P
+<end>
+status 2
+cover: 5 ErrorFound at line 1
+$ check --depth 1
+%%cover
+x
+<end>
+status 2
+cover: 6 BadLine at line 1
+----
+# An atom that does not end: the module goes before the cover.
+module 'm
+$ check --depth 1
+
+%%cover
+p
+<end>
+status 2
+input: 1 BadToken at 7
+----
+# No module.
+
+$ check --depth 1
+%%cover
+p
+<end>
+status 2
+input: 2 Expected at 0
+";
+
+/// The module of a block, and its checks, with `$ ` between them.
+pub(crate) fn parts_of_block(block: &str) -> Result<(&str, &str), Fail> {
+    let Some((front, checks)) = block.split_once("\n$ ") else {
+        return Err(Fail::from("a block has checks"));
+    };
+    let Some((_, module)) = front.split_once('\n') else {
+        return Err(Fail::from("a block has a first line and a module"));
+    };
+    Ok((module, checks))
+}
+
+/// The words of a check, the lines of its cover, and what it tells.
+pub(crate) fn parts_of_check(check: &str) -> Result<(&str, &str, &str), Fail> {
+    let Some((line, rest)) = check.split_once('\n') else {
+        return Err(Fail::from("a check has a line of words"));
+    };
+    let Some((cover, told)) = rest.split_once("<end>\n") else {
+        return Err(Fail::from("a check has an end of its cover"));
+    };
+    match line.split_once(" # ") {
+        Some((words, _)) => Ok((words, cover, told)),
+        None => Ok((line, cover, told)),
+    }
+}
+
+/// The depth of a check, its flags, and what it excuses; the reasons are atoms.
+pub(crate) fn options_of(alloc: Global, words: &str) -> Result<(u64, Flags, Excuses), Fail> {
+    let mut flags = Flags {
+        allow_deadlock: false,
+        strict_access: false,
+        idle_servers: false,
+    };
+    let mut excuses = Excuses::none(alloc);
+    let Some(options) = words.strip_prefix("check --depth ") else {
+        return Err(Fail::from("a check has a depth"));
+    };
+    let mut options = options.split(' ');
+    let Some(depth) = options.next() else {
+        return Err(Fail::from("a check has a depth"));
+    };
+    let Ok(depth) = depth.parse::<u64>() else {
+        return Err(Fail::from("a depth is a number"));
+    };
+    for option in options {
+        match option {
+            "--allow-deadlock" => flags.allow_deadlock = true,
+            "--strict-access" => flags.strict_access = true,
+            "--idle-servers" => flags.idle_servers = true,
+            "--main-deadlock" => excuses.main_deadlock = true,
+            _ => {
+                let Some(reason) = option.strip_prefix("--normal=") else {
+                    return Err(Fail::from("a check has no such option"));
+                };
+                excuses.normal.push(Term::Atom(Atom::new(alloc, reason)?))?;
+            }
+        }
+    }
+    Ok((depth, flags, excuses))
+}
 
 /// The line that reports the outcome on standard error, or nothing.
 pub(crate) fn line_of(
@@ -371,15 +367,15 @@ fn joined_bytes(alloc: Global, front: &str, behind: &str) -> Result<Vec<u8>, All
     Ok(bytes)
 }
 
-// What a check of these bytes writes, the line of its refusal, and its status; so many bytes are read and written at once.
-fn answer_of(
+// What a check of these bytes tells; so many of them are read and written at once.
+fn told_by_check(
     alloc: Global,
     bytes: &[u8],
-    depth: u64,
-    flags: Flags,
+    words: &str,
     read: usize,
     write: usize,
-) -> Result<(Vec<u8>, Vec<u8>, u8), AllocError> {
+) -> Result<Vec<u8>, Fail> {
+    let (depth, flags, excuses) = options_of(alloc, words)?;
     let mut source = MemorySource::in_pieces(bytes, read, u64::MAX);
     let mut sink = MemorySink::in_pieces(alloc, 10_000, write)?;
     let outcome = run_check(
@@ -387,31 +383,42 @@ fn answer_of(
         &mut source,
         depth,
         flags,
-        &Excuses::none(alloc),
+        &excuses,
         &Unwatched,
         &mut sink,
     );
     let line = line_of(alloc, &outcome)?;
-    Ok((sink.bytes, line, status(&outcome)))
+    let ended = format!(in alloc; "status {}\n", status(&outcome))?;
+    let mut told = sink.bytes;
+    told.extend_from_slice(ended.as_bytes())?;
+    told.extend_from_slice(line.as_slice())?;
+    Ok(told)
 }
 
-// In one read and one write for each, and byte by byte.
+// Makes a check in one read and one write for each, and byte by byte.
+fn check_holds(alloc: Global, module: &str, check: &str) -> Result<(), Fail> {
+    let (words, cover, wanted) = parts_of_check(check)?;
+    let bytes = joined_bytes(alloc, module, cover)?;
+    for (read, write) in [(10_000, 10_000), (1, 10_000), (10_000, 1)] {
+        let got = told_by_check(alloc, &bytes, words, read, write)?;
+        same(got.as_slice(), wanted.as_bytes())?;
+    }
+    Ok(())
+}
+
+// Makes the checks of one block.
+fn block_holds(alloc: Global, block: &str) -> Result<(), Fail> {
+    let (module, checks) = parts_of_block(block)?;
+    for check in checks.split("$ ") {
+        check_holds(alloc, module, check)?;
+    }
+    Ok(())
+}
+
 #[test]
 fn answers_byte_for_byte(rt: HostRuntime) -> Result<(), Fail> {
-    let alloc = rt.alloc();
-    for (module, cover, depth, allow_deadlock, strict_access, answer, line, number) in ROWS {
-        let bytes = joined_bytes(alloc, module, cover)?;
-        let flags = Flags {
-            allow_deadlock,
-            strict_access,
-            idle_servers: false,
-        };
-        for (read, write) in [(10_000, 10_000), (1, 10_000), (10_000, 1)] {
-            let (written, told, ended) = answer_of(alloc, &bytes, depth, flags, read, write)?;
-            assert_eq!(rt; ended, number, "{cover}");
-            assert_eq!(rt; told.as_slice(), line.as_bytes());
-            assert_eq!(rt; written.as_slice(), answer.as_bytes());
-        }
+    for block in CHECKS.split("----\n") {
+        block_holds(rt.alloc(), block)?;
     }
     Ok(())
 }

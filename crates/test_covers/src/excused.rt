@@ -1,360 +1,288 @@
 // Checks of covers where some errors are excused: what is excused is no fault of a cover, and all else is.
-use crate::checks::{PRIVATE, RUNAWAY, WAITING};
+use crate::checks::{options_of, parts_of_block, parts_of_check};
 use core_reader::read_module;
-use std::alloc::{AllocError, Global};
+use std::alloc::Global;
 use std::test::Fail;
-use term_core::{Atom, Term};
-use tree_covers::{CoverFault, Unobserved, check_cover};
-use tree_excuses::Excuses;
-use world_identities::Flags;
+use test_support::same;
+use tree_covers::{Unobserved, check_cover};
 
-// A process that ends with a reason.
-const EXIT: &str =
-    "module 'm' ['main'/0] attributes [] 'main'/0 = fun () -> call 'erlang':'exit'('bye') end\n";
+// Blocks as those of the checks from bytes. Here a cover is its lines alone, and what a check tells is its answer. With
+// `--main-deadlock` only deadlocks of the first process count, and each `--normal` has a reason that is excused.
+const CHECKS: &str = "# A process that ends with a reason.
+module 'm' ['main'/0] attributes [] 'main'/0 = fun () -> call 'erlang':'exit'('bye') end
 
-// A process spawns another, which ends with a reason.
-const CHILD_EXITS: &str =
-    "module 'm' ['main'/0,'c'/0] attributes [] 'main'/0 = fun () -> do call 'erlang':'spawn'('m','c',[]) 'x' 'c'/0 = fun () -> call 'erlang':'exit'('bye') end\n";
+$ check --depth 1
+P
 
-// A process spawns another and ends, and that one waits for ever.
-const CHILD_WAITS: &str =
-    "module 'm' ['main'/0,'c'/0] attributes [] 'main'/0 = fun () -> do call 'erlang':'spawn'('m','c',[]) 'x' 'c'/0 = fun () -> receive <X> when 'true' -> X after 'infinity' -> 'x' end\n";
+<end>
+Err(ErrorFound(2))
+$ check --depth 1 --normal=bye
+P
 
-// The same, where that one never takes the message that it gets.
-const CHILD_KEEPS: &str =
-    "module 'm' ['main'/0,'c'/0] attributes [] 'main'/0 = fun () -> let <C> = call 'erlang':'spawn'('m','c',[]) in do call 'erlang':'!'(C,'late') 'x' 'c'/0 = fun () -> receive <'go'> when 'true' -> 'x' after 'infinity' -> 'x' end\n";
+<end>
+Ok(())
+$ check --depth 1 --normal=other --normal=bye
+P
 
-// And where both wait.
-const BOTH_KEEP: &str =
-    "module 'm' ['main'/0,'c'/0] attributes [] 'main'/0 = fun () -> let <C> = call 'erlang':'spawn'('m','c',[]) in do call 'erlang':'!'(C,'late') receive <'go'> when 'true' -> 'x' after 'infinity' -> 'x' 'c'/0 = fun () -> receive <'go'> when 'true' -> 'x' after 'infinity' -> 'x' end\n";
+<end>
+Ok(())
+$ check --depth 1 --main-deadlock --normal=other --normal=by
+P
 
-// A process spawns another, and both wait for ever.
-const BOTH_WAIT: &str =
-    "module 'm' ['main'/0,'c'/0] attributes [] 'main'/0 = fun () -> do call 'erlang':'spawn'('m','c',[]) receive <X> when 'true' -> X after 'infinity' -> 'x' 'c'/0 = fun () -> receive <X> when 'true' -> X after 'infinity' -> 'x' end\n";
+<end>
+Err(ErrorFound(2))
+$ check --depth 1 --normal=bye # the other faults stay what they are
+P
+P
+<end>
+Err(Strange(2))
+$ check --depth 1 --normal=bye
+P
+<end>
+Err(Short(2))
+$ check --depth 1 --normal=bye
+P
 
-// A process spawns another and ends with a reason, and that other one waits for ever: the last node shows two errors.
-const EXIT_AND_WAIT: &str =
-    "module 'm' ['main'/0,'c'/0] attributes [] 'main'/0 = fun () -> do call 'erlang':'spawn'('m','c',[]) call 'erlang':'exit'('bye') 'c'/0 = fun () -> receive <X> when 'true' -> X after 'infinity' -> 'x' end\n";
 
-const PLAIN: Flags = Flags {
-    allow_deadlock: false,
-    strict_access: false,
-    idle_servers: false,
-};
+<end>
+Err(Long(3))
+----
+# A process spawns another, which ends with a reason.
+module 'm' ['main'/0,'c'/0] attributes [] 'main'/0 = fun () -> do call 'erlang':'spawn'('m','c',[]) 'x' 'c'/0 = fun () -> call 'erlang':'exit'('bye') end
 
-const STRICT: Flags = Flags {
-    allow_deadlock: false,
-    strict_access: true,
-    idle_servers: false,
-};
+$ check --depth 3
+P
+P.1 P
+P
 
-const IDLE: Flags = Flags {
-    allow_deadlock: false,
-    strict_access: false,
-    idle_servers: true,
-};
 
-// No deadlock is an error, and what is unread is one where the first process has ended.
-const UNREAD_ALONE: Flags = Flags {
-    allow_deadlock: true,
-    strict_access: false,
-    idle_servers: true,
-};
+<end>
+Err(ErrorFound(3))
+$ check --depth 3 --normal=bye # below an error that is excused the steps go on
+P
+P.1 P
+P
 
-// A module, the lines of a cover, the depth, the flags, whether only deadlocks of the first process count, the reasons that
-// are excused, and what a check answers.
-const ROWS: [(
-    &str,
-    &str,
-    u64,
-    Flags,
-    bool,
-    &[&str],
-    Result<(), CoverFault>,
-); 33] = [
-    // an end with a reason
-    (
-        EXIT,
-        "P\n\n",
-        1,
-        PLAIN,
-        false,
-        &[],
-        Err(CoverFault::ErrorFound(2)),
-    ),
-    (EXIT, "P\n\n", 1, PLAIN, false, &["bye"], Ok(())),
-    (EXIT, "P\n\n", 1, PLAIN, false, &["other", "bye"], Ok(())),
-    (
-        EXIT,
-        "P\n\n",
-        1,
-        PLAIN,
-        true,
-        &["other", "by"],
-        Err(CoverFault::ErrorFound(2)),
-    ),
-    // the other faults stay what they are
-    (
-        EXIT,
-        "P\nP\n",
-        1,
-        PLAIN,
-        false,
-        &["bye"],
-        Err(CoverFault::Strange(2)),
-    ),
-    (
-        EXIT,
-        "P\n",
-        1,
-        PLAIN,
-        false,
-        &["bye"],
-        Err(CoverFault::Short(2)),
-    ),
-    (
-        EXIT,
-        "P\n\n\n",
-        1,
-        PLAIN,
-        false,
-        &["bye"],
-        Err(CoverFault::Long(3)),
-    ),
-    // below an error that is excused the steps go on
-    (
-        CHILD_EXITS,
-        "P\nP.1 P\nP\n\n\n",
-        3,
-        PLAIN,
-        false,
-        &[],
-        Err(CoverFault::ErrorFound(3)),
-    ),
-    (
-        CHILD_EXITS,
-        "P\nP.1 P\nP\n\n\n",
-        3,
-        PLAIN,
-        false,
-        &["bye"],
-        Ok(()),
-    ),
-    (
-        CHILD_EXITS,
-        "P\nP.1 P\n\n\n",
-        3,
-        PLAIN,
-        false,
-        &["bye"],
-        Err(CoverFault::Missing(3)),
-    ),
-    // a deadlock in which the first process does not wait
-    (
-        CHILD_WAITS,
-        "P\nP\n\n",
-        3,
-        PLAIN,
-        false,
-        &[],
-        Err(CoverFault::ErrorFound(3)),
-    ),
-    (
-        CHILD_WAITS,
-        "P\nP\n\n",
-        3,
-        PLAIN,
-        false,
-        &["bye", "normal"],
-        Err(CoverFault::ErrorFound(3)),
-    ),
-    (CHILD_WAITS, "P\nP\n\n", 3, PLAIN, true, &[], Ok(())),
-    // what is unread then, where servers have to be idle, whatever is excused
-    (CHILD_WAITS, "P\nP\n\n", 3, IDLE, true, &[], Ok(())),
-    (
-        CHILD_KEEPS,
-        "P\nP\nP P>P.1\nP>P.1\n\n\n",
-        4,
-        PLAIN,
-        true,
-        &[],
-        Ok(()),
-    ),
-    (
-        CHILD_KEEPS,
-        "P\nP\nP P>P.1\nP>P.1\n\n\n",
-        4,
-        IDLE,
-        true,
-        &[],
-        Err(CoverFault::ErrorFound(5)),
-    ),
-    (
-        CHILD_KEEPS,
-        "P\nP\nP P>P.1\nP>P.1\n\n\n",
-        4,
-        UNREAD_ALONE,
-        true,
-        &["late", "normal"],
-        Err(CoverFault::ErrorFound(5)),
-    ),
-    (
-        CHILD_KEEPS,
-        "P\nP\nP P>P.1\n\n\n",
-        3,
-        IDLE,
-        true,
-        &[],
-        Ok(()),
-    ),
-    // it is none where the first process waits, and the deadlock is one then
-    (
-        BOTH_KEEP,
-        "P\nP\nP>P.1\n\n",
-        3,
-        UNREAD_ALONE,
-        false,
-        &[],
-        Ok(()),
-    ),
-    (
-        BOTH_KEEP,
-        "P\nP\nP>P.1\n\n",
-        3,
-        IDLE,
-        true,
-        &[],
-        Err(CoverFault::ErrorFound(4)),
-    ),
-    (
-        WAITING,
-        "\n",
-        1,
-        IDLE,
-        true,
-        &[],
-        Err(CoverFault::ErrorFound(1)),
-    ),
-    // one in which it does, alone and with another
-    (
-        WAITING,
-        "\n",
-        1,
-        PLAIN,
-        true,
-        &[],
-        Err(CoverFault::ErrorFound(1)),
-    ),
-    (
-        BOTH_WAIT,
-        "P\n\n",
-        2,
-        PLAIN,
-        true,
-        &[],
-        Err(CoverFault::ErrorFound(2)),
-    ),
-    // of two errors of one node each is asked for
-    (
-        EXIT_AND_WAIT,
-        "P\nP\n\n",
-        3,
-        PLAIN,
-        false,
-        &["bye"],
-        Err(CoverFault::ErrorFound(3)),
-    ),
-    (
-        EXIT_AND_WAIT,
-        "P\nP\n\n",
-        3,
-        PLAIN,
-        true,
-        &[],
-        Err(CoverFault::ErrorFound(3)),
-    ),
-    (EXIT_AND_WAIT, "P\nP\n\n", 3, PLAIN, true, &["bye"], Ok(())),
-    // also at the depth
-    (
-        EXIT_AND_WAIT,
-        "P\nP\n\n",
-        2,
-        PLAIN,
-        true,
-        &[],
-        Err(CoverFault::ErrorFound(3)),
-    ),
-    (EXIT_AND_WAIT, "P\nP\n\n", 2, PLAIN, true, &["bye"], Ok(())),
-    // a process that makes too many applications is refused whatever is excused
-    (
-        RUNAWAY,
-        "P\n\n",
-        1,
-        PLAIN,
-        false,
-        &[],
-        Err(CoverFault::ErrorFound(2)),
-    ),
-    (
-        RUNAWAY,
-        "P\n\n",
-        1,
-        PLAIN,
-        true,
-        &["bye", "normal", "killed"],
-        Err(CoverFault::ErrorFound(2)),
-    ),
-    // so is a call that is refused, where that is an error
-    (
-        PRIVATE,
-        "P\nP\nP P.2\n\n\n",
-        3,
-        PLAIN,
-        true,
-        &["bye", "badarg"],
-        Ok(()),
-    ),
-    (
-        PRIVATE,
-        "P\nP\nP P.2\n\n\n",
-        3,
-        STRICT,
-        false,
-        &[],
-        Err(CoverFault::ErrorFound(5)),
-    ),
-    (
-        PRIVATE,
-        "P\nP\nP P.2\n\n\n",
-        3,
-        STRICT,
-        true,
-        &["bye", "badarg"],
-        Err(CoverFault::ErrorFound(5)),
-    ),
-];
 
-// What is excused; the reasons are atoms.
-fn excuses_of(alloc: Global, main_deadlock: bool, reasons: &[&str]) -> Result<Excuses, AllocError> {
-    let mut excuses = Excuses::none(alloc);
-    excuses.main_deadlock = main_deadlock;
-    for reason in reasons {
-        excuses.normal.push(Term::Atom(Atom::new(alloc, reason)?))?;
+<end>
+Ok(())
+$ check --depth 3 --normal=bye
+P
+P.1 P
+
+
+<end>
+Err(Missing(3))
+----
+# A process spawns another and ends, and that one waits for ever: a deadlock in which the first process does not wait.
+module 'm' ['main'/0,'c'/0] attributes [] 'main'/0 = fun () -> do call 'erlang':'spawn'('m','c',[]) 'x' 'c'/0 = fun () -> receive <X> when 'true' -> X after 'infinity' -> 'x' end
+
+$ check --depth 3
+P
+P
+
+<end>
+Err(ErrorFound(3))
+$ check --depth 3 --normal=bye --normal=normal
+P
+P
+
+<end>
+Err(ErrorFound(3))
+$ check --depth 3 --main-deadlock
+P
+P
+
+<end>
+Ok(())
+$ check --depth 3 --idle-servers --main-deadlock # servers have to be idle, and nothing is unread
+P
+P
+
+<end>
+Ok(())
+----
+# The same, where that one never takes the message that it gets: it is unread then, whatever is excused.
+module 'm' ['main'/0,'c'/0] attributes [] 'main'/0 = fun () -> let <C> = call 'erlang':'spawn'('m','c',[]) in do call 'erlang':'!'(C,'late') 'x' 'c'/0 = fun () -> receive <'go'> when 'true' -> 'x' after 'infinity' -> 'x' end
+
+$ check --depth 4 --main-deadlock
+P
+P
+P P>P.1
+P>P.1
+
+
+<end>
+Ok(())
+$ check --depth 4 --idle-servers --main-deadlock
+P
+P
+P P>P.1
+P>P.1
+
+
+<end>
+Err(ErrorFound(5))
+$ check --depth 4 --allow-deadlock --idle-servers --main-deadlock --normal=late --normal=normal
+P
+P
+P P>P.1
+P>P.1
+
+
+<end>
+Err(ErrorFound(5))
+$ check --depth 3 --idle-servers --main-deadlock
+P
+P
+P P>P.1
+
+
+<end>
+Ok(())
+----
+# And where both wait: what is unread is no error where the first process waits, and the deadlock is one then.
+module 'm' ['main'/0,'c'/0] attributes [] 'main'/0 = fun () -> let <C> = call 'erlang':'spawn'('m','c',[]) in do call 'erlang':'!'(C,'late') receive <'go'> when 'true' -> 'x' after 'infinity' -> 'x' 'c'/0 = fun () -> receive <'go'> when 'true' -> 'x' after 'infinity' -> 'x' end
+
+$ check --depth 3 --allow-deadlock --idle-servers
+P
+P
+P>P.1
+
+<end>
+Ok(())
+$ check --depth 3 --idle-servers --main-deadlock
+P
+P
+P>P.1
+
+<end>
+Err(ErrorFound(4))
+----
+# A process that waits for ever: a deadlock in which the first process waits.
+module 'm' ['main'/0] attributes [] 'main'/0 = fun () -> receive <X> when 'true' -> X after 'infinity' -> 'x' end
+
+$ check --depth 1 --idle-servers --main-deadlock
+
+<end>
+Err(ErrorFound(1))
+$ check --depth 1 --main-deadlock
+
+<end>
+Err(ErrorFound(1))
+----
+# A process spawns another, and both wait for ever: one in which it waits with another.
+module 'm' ['main'/0,'c'/0] attributes [] 'main'/0 = fun () -> do call 'erlang':'spawn'('m','c',[]) receive <X> when 'true' -> X after 'infinity' -> 'x' 'c'/0 = fun () -> receive <X> when 'true' -> X after 'infinity' -> 'x' end
+
+$ check --depth 2 --main-deadlock
+P
+
+<end>
+Err(ErrorFound(2))
+----
+# A process ends with a reason, and another waits for ever: of two errors of one node each is asked for.
+module 'm' ['main'/0,'c'/0] attributes [] 'main'/0 = fun () -> do call 'erlang':'spawn'('m','c',[]) call 'erlang':'exit'('bye') 'c'/0 = fun () -> receive <X> when 'true' -> X after 'infinity' -> 'x' end
+
+$ check --depth 3 --normal=bye
+P
+P
+
+<end>
+Err(ErrorFound(3))
+$ check --depth 3 --main-deadlock
+P
+P
+
+<end>
+Err(ErrorFound(3))
+$ check --depth 3 --main-deadlock --normal=bye
+P
+P
+
+<end>
+Ok(())
+$ check --depth 2 --main-deadlock # also at the depth
+P
+P
+
+<end>
+Err(ErrorFound(3))
+$ check --depth 2 --main-deadlock --normal=bye
+P
+P
+
+<end>
+Ok(())
+----
+# A process that makes too many applications is refused whatever is excused.
+module 'm' ['main'/0] attributes [] 'main'/0 = fun () -> apply 'main'/0() end
+
+$ check --depth 1
+P
+
+<end>
+Err(ErrorFound(2))
+$ check --depth 1 --main-deadlock --normal=bye --normal=normal --normal=killed
+P
+
+<end>
+Err(ErrorFound(2))
+----
+# A process reads a private table of another, which is refused and caught.
+module 'm' ['main'/0,'c'/0] attributes [] 'main'/0 = fun () -> do call 'ets':'new'('t',['named_table','private']) call 'erlang':'spawn'('m','c',[]) 'c'/0 = fun () -> try call 'ets':'lookup'('t','a') of <X> -> X catch <K,R> -> 'none' end
+
+$ check --depth 3 --main-deadlock --normal=bye --normal=badarg
+P
+P
+P P.2
+
+
+<end>
+Ok(())
+$ check --depth 3 --strict-access # a call that is refused is an error
+P
+P
+P P.2
+
+
+<end>
+Err(ErrorFound(5))
+$ check --depth 3 --strict-access --main-deadlock --normal=bye --normal=badarg
+P
+P
+P P.2
+
+
+<end>
+Err(ErrorFound(5))
+";
+
+// Makes a check of the cover of a module.
+fn check_holds(alloc: Global, module: &str, check: &str) -> Result<(), Fail> {
+    let (words, cover, wanted) = parts_of_check(check)?;
+    let (depth, flags, excuses) = options_of(alloc, words)?;
+    let Ok(program) = read_module(alloc, module.as_bytes()) else {
+        return Err(Fail::from("a module was refused"));
+    };
+    let lines = cover.as_bytes();
+    let outcome = check_cover(alloc, &program, depth, flags, &excuses, lines, &Unobserved);
+    let got = format!(in alloc; "{outcome:?}\n")?;
+    same(got.as_bytes(), wanted.as_bytes())
+}
+
+// Makes the checks of one block.
+fn block_holds(alloc: Global, block: &str) -> Result<(), Fail> {
+    let (module, checks) = parts_of_block(block)?;
+    for check in checks.split("$ ") {
+        check_holds(alloc, module, check)?;
     }
-    Ok(excuses)
+    Ok(())
 }
 
 #[test]
 fn judges_by_what_counts(rt: HostRuntime) -> Result<(), Fail> {
-    let alloc = rt.alloc();
-    for (module, cover, depth, flags, main_deadlock, reasons, answer) in ROWS {
-        let Ok(program) = read_module(alloc, module.as_bytes()) else {
-            return Err(Fail::from("a module was refused"));
-        };
-        let excuses = excuses_of(alloc, main_deadlock, reasons)?;
-        let lines = cover.as_bytes();
-        let outcome = check_cover(alloc, &program, depth, flags, &excuses, lines, &Unobserved);
-        assert_eq!(rt; outcome, answer, "{cover}");
+    for block in CHECKS.split("----\n") {
+        block_holds(rt.alloc(), block)?;
     }
     Ok(())
 }

@@ -5,7 +5,7 @@ use program_runs::{InputFault, RunFault, read_whole, run_check};
 use search_expansion::Unwatched;
 use std::test::Fail;
 use term_core::Source;
-use test_support::{MemorySink, MemorySource};
+use test_support::{MemorySink, MemorySource, holds, same};
 use tree_covers::CoverFault;
 use tree_excuses::Excuses;
 use world_identities::Flags;
@@ -37,8 +37,8 @@ fn a_read_that_fails_writes_nothing(rt: HostRuntime) -> Result<(), Fail> {
             &Unwatched,
             &mut sink,
         );
-        assert_eq!(rt; outcome, Err(RunFault::ReadFailed), "at {reads}");
-        assert!(rt; sink.bytes.is_empty());
+        holds(outcome == Err(RunFault::ReadFailed), "a read has failed")?;
+        same(sink.bytes.as_slice(), b"")?;
     }
     Ok(())
 }
@@ -60,9 +60,8 @@ fn a_write_that_fails_leaves_what_was_written(rt: HostRuntime) -> Result<(), Fai
             &Unwatched,
             &mut sink,
         );
-        assert_eq!(rt; outcome, Err(RunFault::Output), "at {room}");
-        assert_eq!(rt; sink.bytes.len(), room);
-        assert!(rt; ANSWER.as_bytes().starts_with(&sink.bytes), "at {room}");
+        holds(outcome == Err(RunFault::Output), "a write has failed")?;
+        same(sink.bytes.as_slice(), &ANSWER.as_bytes()[..room])?;
     }
     let mut source = MemorySource::new(text.as_bytes());
     let mut sink = MemorySink::with_flushes(alloc, ANSWER.len(), 0)?;
@@ -75,9 +74,8 @@ fn a_write_that_fails_leaves_what_was_written(rt: HostRuntime) -> Result<(), Fai
         &Unwatched,
         &mut sink,
     );
-    assert_eq!(rt; outcome, Err(RunFault::Output));
-    assert_eq!(rt; sink.bytes.as_slice(), ANSWER.as_bytes());
-    Ok(())
+    holds(outcome == Err(RunFault::Output), "the flush has failed")?;
+    same(sink.bytes.as_slice(), ANSWER.as_bytes())
 }
 
 // Past the length of a module, in one read and in many.
@@ -88,7 +86,7 @@ fn reads_whole_inputs(rt: HostRuntime) -> Result<(), Fail> {
         let bytes = vec![in alloc; b'x'; length]?;
         let mut source = MemorySource::new(&bytes);
         let read = read_whole(alloc, &mut source)?;
-        assert!(rt; read == bytes, "at {length}");
+        holds(read == bytes, "all bytes are read")?;
     }
     Ok(())
 }
@@ -100,9 +98,8 @@ fn tells_that_the_reads_are_used_up(rt: HostRuntime) -> Result<(), Fail> {
     let bytes = vec![in alloc; b'x'; 2_097_152]?;
     let mut source = MemorySource::in_pieces(&bytes, 1, u64::MAX);
     let read = read_whole(alloc, &mut source);
-    assert!(rt; matches!(read, Err(InputFault::ReadFailed)));
-    assert!(rt; !source.failed());
-    Ok(())
+    let is_used_up = matches!(read, Err(InputFault::ReadFailed));
+    holds(is_used_up && !source.failed(), "the reads are used up")
 }
 
 // A module that is too long is refused as such.
@@ -121,11 +118,8 @@ fn a_long_module_is_refused(rt: HostRuntime) -> Result<(), Fail> {
         &Unwatched,
         &mut sink,
     );
-    assert_eq!(rt;
-        outcome,
-        Err(RunFault::Input(ReadFault::TooLong(1_048_576)))
-    );
-    Ok(())
+    let wanted = Err(RunFault::Input(ReadFault::TooLong(1_048_576)));
+    holds(outcome == wanted, "the module is too long")
 }
 
 // A cover may be longer.
@@ -146,6 +140,6 @@ fn a_long_cover_is_read(rt: HostRuntime) -> Result<(), Fail> {
         &Unwatched,
         &mut sink,
     );
-    assert_eq!(rt; outcome, Err(RunFault::Cover(CoverFault::Long(6))));
-    Ok(())
+    let wanted = Err(RunFault::Cover(CoverFault::Long(6)));
+    holds(outcome == wanted, "the cover is too long")
 }

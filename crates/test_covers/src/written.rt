@@ -6,14 +6,22 @@ use program_runs::{Printed, RunFault, Verdict, run_check, run_explore};
 use search_expansion::Unwatched;
 use std::str;
 use std::test::Fail;
-use test_support::{MemorySink, MemorySource, same};
+use test_support::{MemorySink, MemorySource, holds, same};
 use tree_covers::split_at_mark;
 use tree_excuses::Excuses;
 use tree_findings::{Options, Search};
 use world_identities::Flags;
 
-const WRITTEN: &str =
-    "depth 3, nodes 5, complete\nerrors 0, refusals 0\nresult: clean\n%%cover\nP\nP P.1\nP.1\n\n\n";
+const WRITTEN: &str = "depth 3, nodes 5, complete
+errors 0, refusals 0
+result: clean
+%%cover
+P
+P P.1
+P.1
+
+
+";
 
 // A process writes the protected table of another, which is an error.
 const STRANGER: &str =
@@ -69,7 +77,7 @@ fn writes_the_cover_of_a_clean_tree(rt: HostRuntime) -> Result<(), Fail> {
             &Unwatched,
             &mut sink,
         );
-        assert_eq!(rt; outcome, Ok(Verdict::Clean));
+        holds(outcome == Ok(Verdict::Clean), "the tree is clean")?;
         same(sink.bytes.as_slice(), WRITTEN.as_bytes())?;
     }
     Ok(())
@@ -95,13 +103,12 @@ fn writes_no_other_cover(rt: HostRuntime) -> Result<(), Fail> {
             &Unwatched,
             &mut sink,
         );
-        assert_eq!(rt; outcome, Ok(wanted));
-        assert!(rt; !sink.bytes.ends_with(b"\n\n"));
-        assert!(rt;
-            sink.bytes.ends_with(b"result: errors\n")
-                || sink.bytes.ends_with(b"result: incomplete\n")
-                || sink.bytes.ends_with(b"result: clean\n")
-        );
+        holds(outcome == Ok(wanted), "the verdict is that of the tree")?;
+        let is_report = sink.bytes.ends_with(b"result: errors\n")
+            || sink.bytes.ends_with(b"result: incomplete\n")
+            || sink.bytes.ends_with(b"result: clean\n");
+        let is_alone = is_report && !sink.bytes.ends_with(b"\n\n");
+        holds(is_alone, "the report is alone")?;
     }
     Ok(())
 }
@@ -127,9 +134,8 @@ fn a_write_that_fails_leaves_what_was_written(rt: HostRuntime) -> Result<(), Fai
         } else {
             Ok(Verdict::Clean)
         };
-        assert_eq!(rt; outcome, wanted, "at {room}");
-        assert_eq!(rt; sink.bytes.len(), room);
-        assert!(rt; WRITTEN.as_bytes().starts_with(&sink.bytes), "at {room}");
+        holds(outcome == wanted, "the output fails where it has no room")?;
+        same(sink.bytes.as_slice(), &WRITTEN.as_bytes()[..room])?;
     }
     Ok(())
 }
@@ -151,7 +157,7 @@ fn accepts_what_it_writes(rt: HostRuntime) -> Result<(), Fail> {
             &Unwatched,
             &mut sink,
         );
-        assert_eq!(rt; outcome, Ok(Verdict::Clean));
+        holds(outcome == Ok(Verdict::Clean), "the tree is clean")?;
         let (_, part) = split_at_mark(sink.bytes.as_slice());
         let Some(lines) = part else {
             return Err(Fail::from("no cover was written"));
@@ -172,7 +178,7 @@ fn accepts_what_it_writes(rt: HostRuntime) -> Result<(), Fail> {
             &Unwatched,
             &mut answer,
         );
-        assert_eq!(rt; outcome, Ok(Verdict::Done));
+        holds(outcome == Ok(Verdict::Done), "the cover is good")?;
     }
     Ok(())
 }

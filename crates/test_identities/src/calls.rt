@@ -1,17 +1,16 @@
 // Refused calls read back: each rule, with an owner and without, and each call.
-use crate::made::{fault_of, reads_back, refusal, says};
+use crate::made::{are_refused, reads_back, refusal, says};
 use core_tree::{CALLS, CallKind};
-use report_identities::{IdentityFault, read_identity};
+use report_identities::read_identity;
 use report_text::write_identity;
 use std::alloc::Global;
-use std::str;
 use std::test::Fail;
 use term_core::Term;
 use test_support::{MemorySink, holds, nested};
 use world_model::rule::Rule;
 
 // The rules by their numbers and names.
-const RULES: [(Rule, &str); 19] = [
+const RULES: &[(Rule, &str)] = &[
     (Rule::BadTable, "1 BadTable"),
     (Rule::NoTable, "2 NoTable"),
     (Rule::PrivateRead, "3 PrivateRead"),
@@ -34,21 +33,24 @@ const RULES: [(Rule, &str); 19] = [
 ];
 
 // Checks that the refusal of `ets:take('t',1)` by this rule is written so and read back.
-fn says_rule(alloc: Global, rule: Rule, told: Option<&[u64]>, text: &[u8]) -> Result<(), Fail> {
+fn says_refusal(alloc: Global, rule: Rule, told: Option<&[u64]>, text: &[u8]) -> Result<(), Fail> {
     let arguments = vec![in alloc; Term::atom(alloc, "t")?, Term::Int(1)]?;
     let made = refusal(alloc, 3, CallKind::Take, arguments, rule, told)?;
     says(alloc, text, &made)
 }
 
+// Checks that a refusal by this rule has its number and name, without an owner and with one.
+fn says_rule(alloc: Global, rule: Rule, name: &str) -> Result<(), Fail> {
+    let bare = format!(in alloc; "P.2 request 3 ets:take('t',1) -> badarg ({name})")?;
+    says_refusal(alloc, rule, None, bare.as_bytes())?;
+    let told = format!(in alloc; "P.2 request 3 ets:take('t',1) -> badarg ({name}, owner P.4.1)")?;
+    says_refusal(alloc, rule, Some(&[4, 1]), told.as_bytes())
+}
+
 #[test]
 fn says_each_rule(rt: HostRuntime) -> Result<(), Fail> {
-    for (rule, name) in RULES {
-        let bare = format!(in rt.alloc(); "P.2 request 3 ets:take('t',1) -> badarg ({name})")?;
-        says_rule(rt.alloc(), rule, None, bare.as_bytes())?;
-        let told = format!(in rt.alloc();
-            "P.2 request 3 ets:take('t',1) -> badarg ({name}, owner P.4.1)"
-        )?;
-        says_rule(rt.alloc(), rule, Some(&[4, 1]), told.as_bytes())?;
+    for &(rule, name) in RULES {
+        says_rule(rt.alloc(), rule, name)?;
     }
     Ok(())
 }
@@ -98,45 +100,37 @@ fn says_each_call(rt: HostRuntime) -> Result<(), Fail> {
     Ok(())
 }
 
-// Texts that are no reasons, after the brackets of a call.
-const REASONS: [&str; 24] = [
-    " -> badarg (1 BadTable",
-    " -> badarg 1 BadTable)",
-    " -> badarg ()",
-    " -> badarg (1)",
-    " -> badarg (BadTable)",
-    " -> badarg (2 BadTable)",
-    " -> badarg (01 BadTable)",
-    " -> badarg (1  BadTable)",
-    " -> badarg (1 badTable)",
-    " -> badarg (20 CounterRange)",
-    " -> badarg (1 BadTable) ",
-    " -> badarg (1 BadTable))",
-    " -> badarg ((1 BadTable)",
-    " -> badarg (1 BadTable,)",
-    " -> badarg (1 BadTable, owner)",
-    " -> badarg (1 BadTable, owner )",
-    " -> badarg (1 BadTable, owner 1)",
-    " -> badarg (1 BadTable, owner P,)",
-    " -> badarg (1 BadTable, owner P, owner P)",
-    " -> badarg (1 BadTable,owner P)",
-    " -> badarg (1 BadTable, heir P)",
-    " -> noproc (1 BadTable)",
-    "-> badarg (1 BadTable)",
-    "",
-];
+// Calls with another reason, each between quotation marks.
+const REASONS: &str = r#"
+"P request 1 ets:first(1) -> badarg (1 BadTable"
+"P request 1 ets:first(1) -> badarg 1 BadTable)"
+"P request 1 ets:first(1) -> badarg ()"
+"P request 1 ets:first(1) -> badarg (1)"
+"P request 1 ets:first(1) -> badarg (BadTable)"
+"P request 1 ets:first(1) -> badarg (2 BadTable)"
+"P request 1 ets:first(1) -> badarg (01 BadTable)"
+"P request 1 ets:first(1) -> badarg (1  BadTable)"
+"P request 1 ets:first(1) -> badarg (1 badTable)"
+"P request 1 ets:first(1) -> badarg (20 CounterRange)"
+"P request 1 ets:first(1) -> badarg (1 BadTable) "
+"P request 1 ets:first(1) -> badarg (1 BadTable))"
+"P request 1 ets:first(1) -> badarg ((1 BadTable)"
+"P request 1 ets:first(1) -> badarg (1 BadTable,)"
+"P request 1 ets:first(1) -> badarg (1 BadTable, owner)"
+"P request 1 ets:first(1) -> badarg (1 BadTable, owner )"
+"P request 1 ets:first(1) -> badarg (1 BadTable, owner 1)"
+"P request 1 ets:first(1) -> badarg (1 BadTable, owner P,)"
+"P request 1 ets:first(1) -> badarg (1 BadTable, owner P, owner P)"
+"P request 1 ets:first(1) -> badarg (1 BadTable,owner P)"
+"P request 1 ets:first(1) -> badarg (1 BadTable, heir P)"
+"P request 1 ets:first(1) -> noproc (1 BadTable)"
+"P request 1 ets:first(1)-> badarg (1 BadTable)"
+"P request 1 ets:first(1)"
+"#;
 
 #[test]
 fn refuses_other_reasons(rt: HostRuntime) -> Result<(), Fail> {
-    for reason in REASONS {
-        let text = format!(in rt.alloc(); "P request 1 ets:first(1){reason}")?;
-        assert_eq!(rt;
-            fault_of(rt.alloc(), text.as_bytes()),
-            Some(IdentityFault::BadIdentity),
-            "{reason}"
-        );
-    }
-    Ok(())
+    are_refused(rt.alloc(), REASONS)
 }
 
 #[test]

@@ -1,8 +1,9 @@
-// What tests make: processes and refused calls.
+// What tests make: processes and refused calls; and how they read and refuse texts.
 use core_tree::CallKind;
 use report_identities::{IdentityFault, read_identity};
 use report_text::write_identity;
 use std::alloc::{AllocError, Global};
+use std::str;
 use std::sync::Arc;
 use std::test::Fail;
 use term_core::{Pid, Term, Terms};
@@ -63,4 +64,36 @@ pub(crate) fn says(alloc: Global, text: &[u8], identity: &Identity) -> Result<()
 // The fault of a text.
 pub(crate) fn fault_of(alloc: Global, text: &[u8]) -> Option<IdentityFault> {
     read_identity(alloc, text).err()
+}
+
+// The lines of a table, which has some.
+pub(crate) fn rows_of(table: &str) -> Result<&str, Fail> {
+    let rows = table.trim();
+    holds(!rows.is_empty(), "the table has no rows")?;
+    Ok(rows)
+}
+
+// Checks that a text says nothing.
+pub(crate) fn is_refused(alloc: Global, text: &[u8]) -> Result<(), Fail> {
+    let told = str::from_utf8(text).unwrap_or("bytes");
+    holds(
+        fault_of(alloc, text) == Some(IdentityFault::BadIdentity),
+        told,
+    )
+}
+
+// What is between the quotation marks of a row.
+fn unquoted(row: &str) -> Option<&str> {
+    row.strip_prefix('"')?.strip_suffix('"')
+}
+
+// Checks that texts say nothing, each of which is between quotation marks on a line of its own.
+pub(crate) fn are_refused(alloc: Global, table: &str) -> Result<(), Fail> {
+    for row in rows_of(table)?.lines() {
+        let Some(text) = unquoted(row) else {
+            return Err(Fail::from("a row is between quotation marks"));
+        };
+        is_refused(alloc, text.as_bytes())?;
+    }
+    Ok(())
 }

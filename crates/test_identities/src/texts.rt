@@ -1,138 +1,161 @@
 // Ends, deadlocks, runaways and unread messages read back, and texts that say nothing.
-use crate::made::{fault_of, pid, reads_back, says};
+use crate::made::{are_refused, fault_of, is_refused, pid, reads_back, rows_of, says};
 use report_identities::IdentityFault;
-use std::str;
+use std::alloc::Global;
 use std::test::Fail;
 use term_core::Term;
-use test_support::nested;
+use test_support::{holds, nested, same};
 use world_identities::Identity;
 
-// Texts that are read, as reports print them.
-const READ: [&[u8]; 24] = [
-    b"P ends 'boom'",
-    b"P ends {'badarg',[]}",
-    b"P.2.1 ends 'with blanks ) -> badarg (2 NoTable)'",
-    b"P ends 'ends'",
-    b"P.18446744073709551615 ends P.2",
-    b"P ends [1,2|#P.3]",
-    b"P ends '\\n\\''",
-    b"P ends ''",
-    b"deadlock of P",
-    b"deadlock of P P.1 P.2.1",
-    b"deadlock of P.0 P P",
-    b"P runs away",
-    b"P.1.2 runs away",
-    b"unread messages of P",
-    b"unread messages of P.1 P.2.1 P.3",
-    b"unread messages of P.18446744073709551615 P.0 P.0",
-    b"P request 1 ets:insert('t',{1,'a'}) -> badarg (2 NoTable)",
-    b"P.2 request 0 ets:new('t',[]) -> badarg (9 NameTaken)",
-    b"P request 18446744073709551615 ets:first(#P.1) -> badarg (3 PrivateRead, owner P.1)",
-    b"P request 7 ets:lookup('(',')') -> badarg (3 PrivateRead, owner P)",
-    b"P request 7 ets:lookup(') -> badarg (2 NoTable)',') -> badarg (') -> badarg (1 BadTable)",
-    b"P request 7 ets:insert(',',{',','\\',{'}) -> badarg (5 ProtectedWrite, owner P.2.1)",
-    b"P request 7 ets:update_counter({},[],{[],[]}) -> badarg (14 NotInteger, owner P)",
-    b"P request 2 erlang:make_ref() -> badarg (1 BadTable)",
-];
+// Texts that are read, one a line, as reports print them.
+const READ: &str = r"
+P ends 'boom'
+P ends {'badarg',[]}
+P.2.1 ends 'with blanks ) -> badarg (2 NoTable)'
+P ends 'ends'
+P.18446744073709551615 ends P.2
+P ends [1,2|#P.3]
+P ends '\n\''
+P ends ''
+deadlock of P
+deadlock of P P.1 P.2.1
+deadlock of P.0 P P
+P runs away
+P.1.2 runs away
+unread messages of P
+unread messages of P.1 P.2.1 P.3
+unread messages of P.18446744073709551615 P.0 P.0
+P request 1 ets:insert('t',{1,'a'}) -> badarg (2 NoTable)
+P.2 request 0 ets:new('t',[]) -> badarg (9 NameTaken)
+P request 18446744073709551615 ets:first(#P.1) -> badarg (3 PrivateRead, owner P.1)
+P request 7 ets:lookup('(',')') -> badarg (3 PrivateRead, owner P)
+P request 7 ets:lookup(') -> badarg (2 NoTable)',') -> badarg (') -> badarg (1 BadTable)
+P request 7 ets:insert(',',{',','\',{'}) -> badarg (5 ProtectedWrite, owner P.2.1)
+P request 7 ets:update_counter({},[],{[],[]}) -> badarg (14 NotInteger, owner P)
+P request 2 erlang:make_ref() -> badarg (1 BadTable)
+";
 
 #[test]
 fn reads_identities(rt: HostRuntime) -> Result<(), Fail> {
-    for text in READ {
-        reads_back(rt.alloc(), text)?;
+    for text in rows_of(READ)?.lines() {
+        reads_back(rt.alloc(), text.as_bytes())?;
     }
     Ok(())
 }
 
-// Texts that say nothing.
-const REFUSED: [&[u8]; 71] = [
-    b"",
-    b" ",
-    b"P",
-    b"P ",
-    b"p ends 1",
-    b"P. ends 1",
-    b"P.01 ends 1",
-    b"P.18446744073709551616 runs away",
-    b" P ends 1",
-    b"#P.1 ends 1",
-    b"1 ends 1",
-    b"P\nends 1",
-    // ends
-    b"P ends",
-    b"P ends ",
-    b"P  ends 1",
-    b"P ends  1",
-    b"P ends 1 ",
-    b"P ends x",
-    b"P ends 'boom",
-    b"P ends 1\n",
-    b"P end 1",
-    // deadlocks
-    b"deadlock of",
-    b"deadlock of ",
-    b"deadlock of  P",
-    b"deadlock of P ",
-    b"deadlock of P  P.1",
-    b"deadlock of P,P.1",
-    b"deadlock of P\nP.1",
-    b"deadlock of 1",
-    b"deadlock ofP",
-    b"deadlock P",
-    b"Deadlock of P",
-    // runaways
-    b"P runs",
-    b"P runs away ",
-    b"P  runs away",
-    b"P runs  away",
-    b"runs away",
-    // unread messages
-    b"unread",
-    b"unread messages",
-    b"unread messages of",
-    b"unread messages of ",
-    b"unread messages of  P",
-    b"unread messages of P ",
-    b"unread messages of P  P.1",
-    b"unread messages of P,P.1",
-    b"unread messages of P\nP.1",
-    b"unread messages of 1",
-    b"unread messages ofP",
-    b"unread message of P",
-    b"Unread messages of P",
-    // calls
-    b"P request",
-    b"P request 1",
-    b"P request 1 ",
-    b"P request ets:first(1) -> badarg (1 BadTable)",
-    b"P request 01 ets:first(1) -> badarg (1 BadTable)",
-    b"P request +1 ets:first(1) -> badarg (1 BadTable)",
-    b"P request 18446744073709551616 ets:first(1) -> badarg (1 BadTable)",
-    b"P request 1  ets:first(1) -> badarg (1 BadTable)",
-    b"P request 1 ets.first(1) -> badarg (1 BadTable)",
-    b"P request 1 first(1) -> badarg (1 BadTable)",
-    b"P request 1 'ets':'first'(1) -> badarg (1 BadTable)",
-    b"P request 1 ets:firs(1) -> badarg (1 BadTable)",
-    b"P request 1 mets:first(1) -> badarg (1 BadTable)",
-    b"P request 1 e\xffs:first(1) -> badarg (1 BadTable)",
-    b"P request 1 ets:f\xffrst(1) -> badarg (1 BadTable)",
-    b"P request 1 ets:first() -> badarg (1 BadTable)",
-    b"P request 1 ets:first(1,2) -> badarg (1 BadTable)",
-    b"P request 1 ets:first(1,) -> badarg (1 BadTable)",
-    b"P request 1 ets:first(1}) -> badarg (1 BadTable)",
-    b"P request 1 ets:first(1)-> badarg (1 BadTable)",
-    b"P request 1 ets:first(1) -> badarg",
-];
+// Texts that say nothing, each between quotation marks: first some without one of the four forms.
+const NAMES: &str = r##"
+""
+" "
+"P"
+"P "
+"p ends 1"
+"P. ends 1"
+"P.01 ends 1"
+"P.18446744073709551616 runs away"
+" P ends 1"
+"#P.1 ends 1"
+"1 ends 1"
+"##;
+
+// No ends.
+const ENDS: &str = r#"
+"P ends"
+"P ends "
+"P  ends 1"
+"P ends  1"
+"P ends 1 "
+"P ends x"
+"P ends 'boom"
+"P end 1"
+"#;
+
+// No deadlocks.
+const DEADLOCKS: &str = r#"
+"deadlock of"
+"deadlock of "
+"deadlock of  P"
+"deadlock of P "
+"deadlock of P  P.1"
+"deadlock of P,P.1"
+"deadlock of 1"
+"deadlock ofP"
+"deadlock P"
+"Deadlock of P"
+"#;
+
+// No runaways.
+const RUNAWAYS: &str = r#"
+"P runs"
+"P runs away "
+"P  runs away"
+"P runs  away"
+"runs away"
+"#;
+
+// No unread messages.
+const UNREAD: &str = r#"
+"unread"
+"unread messages"
+"unread messages of"
+"unread messages of "
+"unread messages of  P"
+"unread messages of P "
+"unread messages of P  P.1"
+"unread messages of P,P.1"
+"unread messages of 1"
+"unread messages ofP"
+"unread message of P"
+"Unread messages of P"
+"#;
+
+// No calls.
+const CALLS: &str = r#"
+"P request"
+"P request 1"
+"P request 1 "
+"P request ets:first(1) -> badarg (1 BadTable)"
+"P request 01 ets:first(1) -> badarg (1 BadTable)"
+"P request +1 ets:first(1) -> badarg (1 BadTable)"
+"P request 18446744073709551616 ets:first(1) -> badarg (1 BadTable)"
+"P request 1  ets:first(1) -> badarg (1 BadTable)"
+"P request 1 ets.first(1) -> badarg (1 BadTable)"
+"P request 1 first(1) -> badarg (1 BadTable)"
+"P request 1 'ets':'first'(1) -> badarg (1 BadTable)"
+"P request 1 ets:firs(1) -> badarg (1 BadTable)"
+"P request 1 mets:first(1) -> badarg (1 BadTable)"
+"P request 1 ets:first() -> badarg (1 BadTable)"
+"P request 1 ets:first(1,2) -> badarg (1 BadTable)"
+"P request 1 ets:first(1,) -> badarg (1 BadTable)"
+"P request 1 ets:first(1}) -> badarg (1 BadTable)"
+"P request 1 ets:first(1)-> badarg (1 BadTable)"
+"P request 1 ets:first(1) -> badarg"
+"#;
 
 #[test]
-fn refuses_other_texts(rt: HostRuntime) {
-    for text in REFUSED {
-        let told = str::from_utf8(text).unwrap_or("bytes");
-        assert_eq!(rt;
-            fault_of(rt.alloc(), text),
-            Some(IdentityFault::BadIdentity),
-            "{told}"
-        );
-    }
+fn refuses_other_texts(rt: HostRuntime) -> Result<(), Fail> {
+    are_refused(rt.alloc(), NAMES)?;
+    are_refused(rt.alloc(), ENDS)?;
+    are_refused(rt.alloc(), DEADLOCKS)?;
+    are_refused(rt.alloc(), RUNAWAYS)?;
+    are_refused(rt.alloc(), UNREAD)?;
+    are_refused(rt.alloc(), CALLS)
+}
+
+#[test]
+fn refuses_line_breaks_and_other_bytes(rt: HostRuntime) -> Result<(), Fail> {
+    is_refused(rt.alloc(), b"P\nends 1")?;
+    is_refused(rt.alloc(), b"P ends 1\n")?;
+    is_refused(rt.alloc(), b"deadlock of P\nP.1")?;
+    is_refused(rt.alloc(), b"unread messages of P\nP.1")?;
+    is_refused(
+        rt.alloc(),
+        b"P request 1 e\xffs:first(1) -> badarg (1 BadTable)",
+    )?;
+    is_refused(
+        rt.alloc(),
+        b"P request 1 ets:f\xffrst(1) -> badarg (1 BadTable)",
+    )
 }
 
 #[test]
@@ -188,34 +211,32 @@ fn reads_deep_terms(rt: HostRuntime) -> Result<(), Fail> {
     reads_back(rt.alloc(), reason.as_bytes())
 }
 
+// Checks that a text is refused because its terms are too deep.
+fn is_too_deep(alloc: Global, text: &str) -> Result<(), Fail> {
+    holds(
+        fault_of(alloc, text.as_bytes()) == Some(IdentityFault::TooDeep),
+        "its terms are not too deep",
+    )
+}
+
 #[test]
 fn refuses_what_is_too_deep(rt: HostRuntime) -> Result<(), Fail> {
     let reason = nested(rt.alloc(), "P ends ", "{", 10_001, "[]", "}")?;
-    assert_eq!(rt;
-        fault_of(rt.alloc(), reason.as_bytes()),
-        Some(IdentityFault::TooDeep)
-    );
+    is_too_deep(rt.alloc(), reason.as_str())?;
     let mut call = nested(rt.alloc(), "P request 1 ets:first(", "[", 10_000, "1", "]")?;
     call.push_str(") -> badarg (1 BadTable)")?;
-    assert_eq!(rt;
-        fault_of(rt.alloc(), call.as_bytes()),
-        Some(IdentityFault::TooDeep)
-    );
-    Ok(())
+    is_too_deep(rt.alloc(), call.as_str())
 }
 
-// The faults, and their texts.
-const FAULTS: [(IdentityFault, &str); 3] = [
-    (IdentityFault::BadIdentity, "1 BadIdentity"),
-    (IdentityFault::TooDeep, "2 TooDeep"),
-    (IdentityFault::Memory, "3 Memory"),
-];
+// Checks that a fault has this text.
+fn is_told(alloc: Global, fault: IdentityFault, wanted: &str) -> Result<(), Fail> {
+    let text = format!(in alloc; "{fault}")?;
+    same(text.as_bytes(), wanted.as_bytes())
+}
 
 #[test]
 fn writes_faults(rt: HostRuntime) -> Result<(), Fail> {
-    for (fault, want) in FAULTS {
-        let text = format!(in rt.alloc(); "{fault}")?;
-        assert_eq!(rt; text.as_str(), want);
-    }
-    Ok(())
+    is_told(rt.alloc(), IdentityFault::BadIdentity, "1 BadIdentity")?;
+    is_told(rt.alloc(), IdentityFault::TooDeep, "2 TooDeep")?;
+    is_told(rt.alloc(), IdentityFault::Memory, "3 Memory")
 }

@@ -23,28 +23,71 @@ const ONE_KEY: &str =
 const ENDLESS: &str =
     "module 'm' ['main'/0] attributes [] 'main'/0 = fun () -> do call 'erlang':'make_ref'() apply 'main'/0() end\n";
 
-// A module, a depth, and the lines of the jobs there, worked out by hand.
-type Level = (&'static str, u64, &'static [&'static str]);
+// The module of this name.
+fn module_named(name: &str) -> Option<&'static str> {
+    match name {
+        "two_end" => Some(TWO_END),
+        "makers" => Some(MAKERS),
+        "one_key" => Some(ONE_KEY),
+        "endless" => Some(ENDLESS),
+        _ => None,
+    }
+}
 
-const LEVELS: [Level; 13] = [
-    // no step is taken at the root, and none sleeps
-    (TWO_END, 0, &[" | "]),
-    (TWO_END, 1, &["P | "]),
-    // the step that is taken first sleeps for the other one, which is independent of it
-    (TWO_END, 2, &["P P | ", "P P.1 | P"]),
-    // where all that is enabled sleeps nothing is below
-    (TWO_END, 3, &["P P P.1 | "]),
-    (TWO_END, 4, &[]),
-    (TWO_END, u64::MAX, &[]),
-    (MAKERS, 2, &["P P | ", "P P.1 | P"]),
-    (MAKERS, 3, &["P P P | ", "P P P.1 | P", "P P.1 P.1 | P"]),
-    (MAKERS, 4, &["P P P P.1 | ", "P P P.1 P.1 | P"]),
-    (MAKERS, 5, &["P P P P.1 P.1 | "]),
-    // a step that depends on the one that is taken does not sleep
-    (ONE_KEY, 2, &["P P | "]),
-    (ONE_KEY, 3, &["P P P | ", "P P P.2 | "]),
-    (ENDLESS, 3, &["P P P | "]),
-];
+// The name of a module, a depth, and the lines of the jobs there, worked out by hand. At the root no step is taken, and
+// none sleeps. The step that is taken first sleeps for the other one, which is independent of it. Where all that is
+// enabled sleeps nothing is below. A step that depends on the one that is taken does not sleep.
+const LEVELS: &str = r#"
+two_end 0: " | "
+two_end 1: "P | "
+two_end 2: "P P | " "P P.1 | P"
+two_end 3: "P P P.1 | "
+two_end 4:
+two_end 18446744073709551615:
+makers 2: "P P | " "P P.1 | P"
+makers 3: "P P P | " "P P P.1 | P" "P P.1 P.1 | P"
+makers 4: "P P P P.1 | " "P P P.1 P.1 | P"
+makers 5: "P P P P.1 P.1 | "
+one_key 2: "P P | "
+one_key 3: "P P P | " "P P P.2 | "
+endless 3: "P P P | "
+"#;
+
+/// The lines of a table, which has some.
+pub(crate) fn rows_of(table: &str) -> Result<&str, Fail> {
+    let rows = table.trim();
+    holds(!rows.is_empty(), "the table has no rows")?;
+    Ok(rows)
+}
+
+// The lines that a row has between quotation marks, each with its end.
+fn quoted_lines(alloc: Global, row: &str) -> Result<String, Fail> {
+    let mut lines = String::new(alloc);
+    let mut is_quoted = false;
+    for part in row.split('"') {
+        if is_quoted {
+            lines.push_str(part)?;
+            lines.push_str("\n")?;
+        }
+        is_quoted = !is_quoted;
+    }
+    holds(is_quoted, "each quotation mark has another one")?;
+    Ok(lines)
+}
+
+// The module of a row, its depth, and its lines.
+fn level(alloc: Global, row: &str) -> Result<(&'static str, u64, String), Fail> {
+    let Some((head, lines)) = row.split_once(':') else {
+        return Err(Fail::from("a row has a colon"));
+    };
+    let Some((name, depth)) = head.split_once(' ') else {
+        return Err(Fail::from("a row has a module and a depth"));
+    };
+    let Some(module) = module_named(name) else {
+        return Err(Fail::from("no module has the name"));
+    };
+    Ok((module, depth.parse()?, quoted_lines(alloc, lines)?))
+}
 
 // The lines of jobs, which are written so many bytes at once.
 pub(crate) fn lines_of(alloc: Global, jobs: &[JobName], piece: usize) -> Result<Vec<u8>, Fail> {
@@ -53,27 +96,21 @@ pub(crate) fn lines_of(alloc: Global, jobs: &[JobName], piece: usize) -> Result<
     Ok(sink.bytes)
 }
 
-// Lines, each with its end.
-fn ended(alloc: Global, lines: &[&str]) -> Result<Vec<u8>, AllocError> {
-    let mut text = Vec::new(alloc);
-    for line in lines {
-        text.extend_from_slice(line.as_bytes())?;
-        text.push(b'\n')?;
-    }
-    Ok(text)
+// Checks that the jobs of a row have its lines, however many bytes are written at once.
+fn is_worked_out(alloc: Global, row: &str) -> Result<(), Fail> {
+    let (module, depth, lines) = level(alloc, row)?;
+    let program = read_module(alloc, module.as_bytes())?;
+    let jobs = jobs_at(alloc, &program, depth)?;
+    let written = lines_of(alloc, jobs.as_slice(), 1)?;
+    same(written.as_slice(), lines.as_bytes())?;
+    let written = lines_of(alloc, jobs.as_slice(), 1000)?;
+    same(written.as_slice(), lines.as_bytes())
 }
 
 #[test]
 fn jobs_are_as_they_were_worked_out(rt: HostRuntime) -> Result<(), Fail> {
-    let alloc = rt.alloc();
-    for (module, depth, lines) in LEVELS {
-        let program = read_module(alloc, module.as_bytes())?;
-        let jobs = jobs_at(alloc, &program, depth)?;
-        let wanted = ended(alloc, lines)?;
-        for piece in [1, 1000] {
-            let written = lines_of(alloc, jobs.as_slice(), piece)?;
-            same(written.as_slice(), wanted.as_slice())?;
-        }
+    for row in rows_of(LEVELS)?.lines() {
+        is_worked_out(rt.alloc(), row)?;
     }
     Ok(())
 }
@@ -115,16 +152,21 @@ pub(crate) fn is_read(
     same(front, line)
 }
 
-// To the depth of the jobs, and to a greater one.
+// Checks that each line of a row is read, to the depth of its jobs and to a greater one.
+fn are_read(alloc: Global, row: &str) -> Result<(), Fail> {
+    let (module, depth, lines) = level(alloc, row)?;
+    let program = read_module(alloc, module.as_bytes())?;
+    for line in lines.as_str().lines() {
+        is_read(alloc, explored(&program, depth), line.as_bytes())?;
+        is_read(alloc, explored(&program, u64::MAX), line.as_bytes())?;
+    }
+    Ok(())
+}
+
 #[test]
 fn lines_are_read_again(rt: HostRuntime) -> Result<(), Fail> {
-    let alloc = rt.alloc();
-    for (module, depth, lines) in LEVELS {
-        let program = read_module(alloc, module.as_bytes())?;
-        for line in lines {
-            is_read(alloc, explored(&program, depth), line.as_bytes())?;
-            is_read(alloc, explored(&program, u64::MAX), line.as_bytes())?;
-        }
+    for row in rows_of(LEVELS)?.lines() {
+        are_read(rt.alloc(), row)?;
     }
     Ok(())
 }
@@ -136,25 +178,36 @@ fn a_long_schedule_is_written_and_read(rt: HostRuntime) -> Result<(), Fail> {
     let program = read_module(alloc, ENDLESS.as_bytes())?;
     let jobs = jobs_at(alloc, &program, 300)?;
     let written = lines_of(alloc, jobs.as_slice(), 1000)?;
+    let wanted = nested(alloc, "P", " P", 299, " | \n", "")?;
+    same(written.as_slice(), wanted.as_bytes())?;
     let line = nested(alloc, "P", " P", 299, " | ", "")?;
-    let wanted = ended(alloc, &[line.as_str()])?;
-    same(written.as_slice(), wanted.as_slice())?;
     is_read(alloc, explored(&program, 300), line.as_bytes())
+}
+
+// Checks that a sink with room for so many bytes fails, and has as many of those that are to be written.
+fn stops_at(alloc: Global, jobs: &[JobName], wanted: &[u8], room: usize) -> Result<(), Fail> {
+    let mut sink = MemorySink::with_room(alloc, room)?;
+    let outcome = write_jobs(jobs, &mut sink);
+    if outcome.is_err()
+        && sink.has_failed
+        && sink.bytes.len() == room
+        && wanted.starts_with(sink.bytes.as_slice())
+    {
+        Ok(())
+    } else {
+        Err(Fail::new(format_args!("at {room}")))
+    }
 }
 
 // After each byte.
 #[test]
 fn a_write_that_fails_leaves_what_was_written(rt: HostRuntime) -> Result<(), Fail> {
     let alloc = rt.alloc();
-    let wanted = ended(alloc, &["P P P | ", "P P P.1 | P", "P P.1 P.1 | P"])?;
+    let wanted = "P P P | \nP P P.1 | P\nP P.1 P.1 | P\n";
     let program = read_module(alloc, MAKERS.as_bytes())?;
     let jobs = jobs_at(alloc, &program, 3)?;
     for room in 0..wanted.len() {
-        let mut sink = MemorySink::with_room(alloc, room)?;
-        let outcome = write_jobs(jobs.as_slice(), &mut sink);
-        assert!(rt; outcome.is_err() && sink.has_failed, "at {room}");
-        assert_eq!(rt; sink.bytes.len(), room);
-        assert!(rt; wanted.starts_with(&sink.bytes), "at {room}");
+        stops_at(alloc, jobs.as_slice(), wanted.as_bytes(), room)?;
     }
     Ok(())
 }

@@ -1,5 +1,6 @@
 // Small modules, and what their processes ask.
 mod applications;
+mod blocks;
 mod clauses;
 mod exceptions;
 mod own_calls;
@@ -10,85 +11,130 @@ mod sameness;
 use crate::requests::text_of;
 use core_eval::{Answer, Machine};
 use core_reader::Module;
-use runs::{Long, MAIN, ask_all, ask_long, asks, ends, first_process, process, program, run_on};
+use runs::{MAIN, ask_all, ask_long, asks, ends, first_process, process, program, run_on};
 use std::alloc::{AllocError, Global};
 use std::test::Fail;
 use term_core::{Pid, Term};
 use test_support::{nested, same};
 
-// Bodies, and what a process with such a body asks; each request is answered by its number.
-const IN_ORDER: [(&str, &str); 2] = [
-    // a call in each place of a tuple, a list, a list with a tail, a `do`, a `let` and a call
-    (
-        "call 'ets':'lookup'('t',call 'ets':'insert'({call 'ets':'lookup'('t',101),call 'ets':'lookup'('t',102)},[[call 'ets':'lookup'('t',103),call 'ets':'lookup'('t',104)],[call 'ets':'lookup'('t',105)|call 'ets':'lookup'('t',106)]|do call 'ets':'lookup'('t',107) let <X> = call 'ets':'lookup'('t',108) in X]))",
-        "lookup 't' 101\nlookup 't' 102\nlookup 't' 103\nlookup 't' 104\nlookup 't' 105\nlookup 't' 106\nlookup 't' 107\nlookup 't' 108\ninsert {1,2} [[3,4],[5|6]|8]\nlookup 't' 9\n'normal'",
-    ),
-    // the outer variable is 1, the inner 2
-    (
-        "let <X> = 1 in do let <X> = 2 in call 'ets':'lookup'('t',X) call 'ets':'lookup'('t',X)",
-        "lookup 't' 2\nlookup 't' 1\n'normal'",
-    ),
-];
+// Bodies, and below each what a process with it asks; each request is answered by its number.
+const IN_ORDER: &str = "\
+% a call in each place of a tuple, a list, a list with a tail, a `do`, a `let` and a call
+call 'ets':'lookup'('t',call 'ets':'insert'({call 'ets':'lookup'('t',101),call 'ets':'lookup'('t',102)},[[call 'ets':'lookup'('t',103),call 'ets':'lookup'('t',104)],[call 'ets':'lookup'('t',105)|call 'ets':'lookup'('t',106)]|do call 'ets':'lookup'('t',107) let <X> = call 'ets':'lookup'('t',108) in X]))
+lookup 't' 101
+lookup 't' 102
+lookup 't' 103
+lookup 't' 104
+lookup 't' 105
+lookup 't' 106
+lookup 't' 107
+lookup 't' 108
+insert {1,2} [[3,4],[5|6]|8]
+lookup 't' 9
+'normal'
 
-// Long bodies: the front, what is repeated, how often, and the rest; and what is asked.
-const UP_TO_THE_LIMIT: [Long; 7] = [
-    // 10,000 nodes: a tuple and 9,999 integers
-    ("{", "1,", 9_998, "1}", "'normal'"),
-    ("{", "1,", 9_999, "1}", "{'system_limit',[]}"),
-    // 10,000 nodes: 4,999 cells, 4,998 integers, a tuple of one integer, and nil
-    ("[", "1,", 4_998, "{1}]", "'normal'"),
-    // 10,001 nodes: 5,000 cells, 5,000 integers, and nil
-    ("[", "1,", 4_999, "1]", "{'system_limit',[]}"),
-    // the same, with nil as the tail
-    ("[", "1,", 4_999, "1|[]]", "{'system_limit',[]}"),
-    // 9,999 nodes, and 10,001
-    ("\"", "a", 4_999, "\"", "'normal'"),
-    ("\"", "a", 5_000, "\"", "{'system_limit',[]}"),
-];
+% the outer variable is 1, the inner 2
+let <X> = 1 in do let <X> = 2 in call 'ets':'lookup'('t',X) call 'ets':'lookup'('t',X)
+lookup 't' 2
+lookup 't' 1
+'normal'";
+
+// Long bodies: the front, how often what is repeated, and the rest; and below each what is asked.
+const UP_TO_THE_LIMIT: &str = "\
+% 10,000 nodes: a tuple and 9,999 integers
+{
+9998 times 1,
+1}
+'normal'
+
+{
+9999 times 1,
+1}
+{'system_limit',[]}
+
+% 10,000 nodes: 4,999 cells, 4,998 integers, a tuple of one integer, and nil
+[
+4998 times 1,
+{1}]
+'normal'
+
+% 10,001 nodes: 5,000 cells, 5,000 integers, and nil
+[
+4999 times 1,
+1]
+{'system_limit',[]}
+
+% the same, with nil as the tail
+[
+4999 times 1,
+1|[]]
+{'system_limit',[]}
+
+% 9,999 nodes, and 10,001
+\"
+4999 times a
+\"
+'normal'
+
+\"
+5000 times a
+\"
+{'system_limit',[]}";
 
 #[test]
 fn evaluates(rt: HostRuntime) -> Result<(), Fail> {
-    ask_all(rt.alloc(), MAIN, &IN_ORDER)?;
-    ask_long(rt.alloc(), &UP_TO_THE_LIMIT)
+    ask_all(rt.alloc(), MAIN, IN_ORDER)?;
+    ask_long(rt.alloc(), UP_TO_THE_LIMIT)
 }
 
-// A `do` in a `do`, a thousand deep; it is the first part of the outer one, or the second.
-const DEEP: [(&str, &str); 2] = [("do ", " 7"), ("do 7 ", "")];
+// Checks that a thousand levels run to the normal end, each of which opens so and closes so.
+fn levels_run(alloc: Global, opening: &str, closing: &str) -> Result<(), Fail> {
+    let body = nested(alloc, "", opening, 999, "7", closing)?;
+    asks(alloc, MAIN, body.as_str(), "'normal'")
+}
 
+// A `do` in a `do`; it is the first part of the outer one, or the second.
 #[test]
 fn a_thousand_levels_run(rt: HostRuntime) -> Result<(), Fail> {
-    for (opening, closing) in DEEP {
-        let body = nested(rt.alloc(), "", opening, 999, "7", closing)?;
-        asks(rt.alloc(), MAIN, body.as_str(), "'normal'")?;
-    }
-    Ok(())
+    levels_run(rt.alloc(), "do ", " 7")?;
+    levels_run(rt.alloc(), "do 7 ", "")
 }
 
-// The end of a process that got another number of values than expected.
-const WRONG_COUNT: &str = "{'value_count',[]}";
+// Strings and several values, and below each what is asked.
+const STRINGS_AND_VALUES: &str = "\
+call 'ets':'lookup'('t',\"aa\")
+lookup 't' [97,97]
+'normal'
 
-// Strings and several values, and what is asked.
-const STRINGS_AND_VALUES: [(&str, &str); 9] = [
-    (
-        "call 'ets':'lookup'('t',\"aa\")",
-        "lookup 't' [97,97]\n'normal'",
-    ),
-    (
-        "let <X,Y> = <1,2> in call 'ets':'insert'(Y,X)",
-        "insert 2 1\n'normal'",
-    ),
-    ("<1,2>", "'normal'"),
-    ("<>", "'normal'"),
-    ("call 'ets':'lookup'('t',<1>)", "lookup 't' 1\n'normal'"),
-    ("call 'ets':'lookup'('t',<1,2>)", WRONG_COUNT),
-    ("let <X> = <1,2> in X", WRONG_COUNT),
-    ("let <X,Y> = 1 in X", WRONG_COUNT),
-    ("do <> 7", WRONG_COUNT),
-];
+let <X,Y> = <1,2> in call 'ets':'insert'(Y,X)
+insert 2 1
+'normal'
+
+<1,2>
+'normal'
+
+<>
+'normal'
+
+call 'ets':'lookup'('t',<1>)
+lookup 't' 1
+'normal'
+
+call 'ets':'lookup'('t',<1,2>)
+{'value_count',[]}
+
+let <X> = <1,2> in X
+{'value_count',[]}
+
+let <X,Y> = 1 in X
+{'value_count',[]}
+
+do <> 7
+{'value_count',[]}";
 
 #[test]
 fn evaluates_strings_and_values(rt: HostRuntime) -> Result<(), Fail> {
-    ask_all(rt.alloc(), MAIN, &STRINGS_AND_VALUES)
+    ask_all(rt.alloc(), MAIN, STRINGS_AND_VALUES)
 }
 
 // Answers that do not fit, and then a refusal.
@@ -167,13 +213,9 @@ fn child_begins(alloc: Global, program: &Module, name: &str, want: &str) -> Resu
 }
 
 // A function that is not exported, and one that is not there.
-const NOT_EXPORTED: [&str; 2] = ["main", "none"];
-
 #[test]
 fn other_processes_begin_at_exports(rt: HostRuntime) -> Result<(), Fail> {
     let program = program(rt.alloc(), MAIN, "0")?;
-    for name in NOT_EXPORTED {
-        child_begins(rt.alloc(), &program, name, "{'undef',[]}")?;
-    }
-    Ok(())
+    child_begins(rt.alloc(), &program, "main", "{'undef',[]}")?;
+    child_begins(rt.alloc(), &program, "none", "{'undef',[]}")
 }

@@ -2,7 +2,7 @@
 use program_runs::{InputFault, read_input};
 use std::test::Fail;
 use term_core::Source;
-use test_support::{EndlessSource, MemorySource};
+use test_support::{EndlessSource, MemorySource, holds, same};
 
 #[test]
 fn reads_to_the_end(rt: HostRuntime) -> Result<(), Fail> {
@@ -11,7 +11,7 @@ fn reads_to_the_end(rt: HostRuntime) -> Result<(), Fail> {
         let bytes = vec![in alloc; b'x'; length]?;
         let mut source = MemorySource::new(&bytes);
         let read = read_input(alloc, &mut source)?;
-        assert!(rt; read == bytes, "at {length}");
+        holds(read == bytes, "all bytes are read")?;
     }
     Ok(())
 }
@@ -20,8 +20,7 @@ fn reads_to_the_end(rt: HostRuntime) -> Result<(), Fail> {
 fn reads_a_byte_at_a_time(rt: HostRuntime) -> Result<(), Fail> {
     let mut source = MemorySource::in_pieces(b"module", 1, u64::MAX);
     let read = read_input(rt.alloc(), &mut source)?;
-    assert_eq!(rt; read.as_slice(), b"module".as_slice());
-    Ok(())
+    same(read.as_slice(), b"module")
 }
 
 #[test]
@@ -29,13 +28,15 @@ fn tells_a_read_that_fails(rt: HostRuntime) -> Result<(), Fail> {
     for reads in 0..4 {
         let mut source = MemorySource::in_pieces(b"abc", 1, reads);
         let read = read_input(rt.alloc(), &mut source);
-        assert!(rt; matches!(read, Err(InputFault::ReadFailed)), "at {reads}");
-        assert!(rt; source.failed());
+        holds(
+            matches!(read, Err(InputFault::ReadFailed)),
+            "a read has failed",
+        )?;
+        holds(source.failed(), "the source has failed")?;
     }
     let mut source = MemorySource::in_pieces(b"abc", 1, 4);
     let read = read_input(rt.alloc(), &mut source)?;
-    assert_eq!(rt; read.as_slice(), b"abc".as_slice());
-    Ok(())
+    same(read.as_slice(), b"abc")
 }
 
 #[test]

@@ -19,3 +19,5 @@ mod replays;
 mod samples;
 #[cfg(test)]
 mod terms;
+#[cfg(test)]
+mod transcripts;

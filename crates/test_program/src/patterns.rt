@@ -3,53 +3,56 @@ use program_runs::{NAME, Words, read_words};
 use std::alloc::{AllocError, Global};
 use std::test::Fail;
 use term_core::{Pid, Term, list_onto};
+use test_support::same;
 use tree_excuses::Excuses;
 use world_identities::Identity;
 
-// A pattern, a reason, and whether an end with this reason is taken as normal.
-const ROWS: [(&str, &str, bool); 37] = [
-    // any term
-    ("'_'", "7", true),
-    ("'_'", "'killed'", true),
-    ("'_'", "{'shutdown',[1,2|'x']}", true),
-    ("'_'", "[]", true),
-    ("'_'", "'_'", true),
-    // other atoms stand for themselves
-    ("'killed'", "'killed'", true),
-    ("'killed'", "'_'", false),
-    ("'__'", "'killed'", false),
-    ("''", "'_'", false),
-    ("'$1'", "7", false),
-    // tuples of the same size, part by part
-    ("{'shutdown','_'}", "{'shutdown',1}", true),
-    ("{'shutdown','_'}", "{'shutdown',{'failed',[1,2]}}", true),
-    ("{'shutdown','_'}", "{'shutdown','_'}", true),
-    ("{'shutdown','_'}", "{'restart',1}", false),
-    ("{'shutdown','_'}", "'shutdown'", false),
-    ("{'shutdown','_'}", "{'shutdown'}", false),
-    ("{'shutdown','_'}", "{'shutdown',1,2}", false),
-    ("{'shutdown','_'}", "['shutdown',1]", false),
-    ("{'_',1}", "{'shutdown',2}", false),
-    ("{'_'}", "{}", false),
-    ("{}", "{}", true),
-    ("{{'_',1},'_'}", "{{2,1},3}", true),
-    ("{{'_',1},'_'}", "{{2,2},3}", false),
-    // list cells, head and tail
-    ("['_'|'_']", "[1]", true),
-    ("['_'|'_']", "[1,2,3]", true),
-    ("['_'|'_']", "[1|2]", true),
-    ("['_'|'_']", "[]", false),
-    ("['_'|'_']", "{1,2}", false),
-    ("['_','_']", "[1,2]", true),
-    ("['_','_']", "[1]", false),
-    ("['_','_']", "[1,2,3]", false),
-    ("['_','_']", "[1,2|3]", false),
-    ("['_',1|'_']", "[2,1,3,4]", true),
-    ("['_',1|'_']", "[2,2,3,4]", false),
-    ("[['_',1],2]", "[[3,1],2]", true),
-    ("[['_',1],2]", "[[3,2],2]", false),
-    ("[1,2]", "[1,3]", false),
-];
+// Groups of rows, with an empty line between them. The first line of a group says what its rows show. A row is a
+// pattern, whether it matches, and a reason: an end with this reason is taken as normal where it does.
+const PATTERNS: &str = "Any term:
+'_' matches 7
+'_' matches 'killed'
+'_' matches {'shutdown',[1,2|'x']}
+'_' matches []
+'_' matches '_'
+
+Other atoms stand for themselves:
+'killed' matches 'killed'
+'killed' does not match '_'
+'__' does not match 'killed'
+'' does not match '_'
+'$1' does not match 7
+
+Tuples of the same size, part by part:
+{'shutdown','_'} matches {'shutdown',1}
+{'shutdown','_'} matches {'shutdown',{'failed',[1,2]}}
+{'shutdown','_'} matches {'shutdown','_'}
+{'shutdown','_'} does not match {'restart',1}
+{'shutdown','_'} does not match 'shutdown'
+{'shutdown','_'} does not match {'shutdown'}
+{'shutdown','_'} does not match {'shutdown',1,2}
+{'shutdown','_'} does not match ['shutdown',1]
+{'_',1} does not match {'shutdown',2}
+{'_'} does not match {}
+{} matches {}
+{{'_',1},'_'} matches {{2,1},3}
+{{'_',1},'_'} does not match {{2,2},3}
+
+List cells, head and tail:
+['_'|'_'] matches [1]
+['_'|'_'] matches [1,2,3]
+['_'|'_'] matches [1|2]
+['_'|'_'] does not match []
+['_'|'_'] does not match {1,2}
+['_','_'] matches [1,2]
+['_','_'] does not match [1]
+['_','_'] does not match [1,2,3]
+['_','_'] does not match [1,2|3]
+['_',1|'_'] matches [2,1,3,4]
+['_',1|'_'] does not match [2,2,3,4]
+[['_',1],2] matches [[3,1],2]
+[['_',1],2] does not match [[3,2],2]
+[1,2] does not match [1,3]";
 
 // What words with this pattern excuse.
 fn excuses_of(alloc: Global, pattern: &str) -> Result<Excuses, Fail> {
@@ -70,16 +73,42 @@ fn end_with(alloc: Global, reason: Term) -> Result<Identity, AllocError> {
     })
 }
 
+// Checks one row.
+fn row_holds(alloc: Global, row: &str) -> Result<(), Fail> {
+    let Some((pattern, rest)) = row.split_once(' ') else {
+        return Err(Fail::from("a row begins with a pattern"));
+    };
+    let Some((wanted, reason)) = rest.rsplit_once(' ') else {
+        return Err(Fail::from("a row ends with a reason"));
+    };
+    let mut read = excuses_of(alloc, reason)?;
+    let Some(reason) = read.normal.pop() else {
+        return Err(Fail::from("the words have no reason"));
+    };
+    let end = end_with(alloc, reason)?;
+    let got = if excuses_of(alloc, pattern)?.excuses(&end) {
+        "matches"
+    } else {
+        "does not match"
+    };
+    same(got.as_bytes(), wanted.as_bytes())
+}
+
+// Checks the rows of one group.
+fn group_holds(alloc: Global, group: &str) -> Result<(), Fail> {
+    let Some((_, rows)) = group.split_once(":\n") else {
+        return Err(Fail::from("a group has a first line and rows"));
+    };
+    for row in rows.split('\n') {
+        row_holds(alloc, row)?;
+    }
+    Ok(())
+}
+
 #[test]
 fn patterns_excuse_what_they_match(rt: HostRuntime) -> Result<(), Fail> {
-    for (pattern, reason, is_normal) in ROWS {
-        let mut read = excuses_of(rt.alloc(), reason)?;
-        let Some(reason) = read.normal.pop() else {
-            return Err(Fail::from("the words have no reason"));
-        };
-        let end = end_with(rt.alloc(), reason)?;
-        let excuses = excuses_of(rt.alloc(), pattern)?;
-        assert_eq!(rt; excuses.excuses(&end), is_normal);
+    for group in PATTERNS.split("\n\n") {
+        group_holds(rt.alloc(), group)?;
     }
     Ok(())
 }

@@ -2,6 +2,7 @@
 use core_copies::copy_module;
 use core_reader::read_module;
 use std::test::Fail;
+use test_support::holds;
 
 // A module with every form of expression, of pattern and of constant, and with every kind of call.
 fn every_form() -> &'static [u8] {
@@ -30,9 +31,8 @@ end"
 fn a_copied_module_is_the_same(rt: HostRuntime) -> Result<(), Fail> {
     let module = read_module(rt.alloc(), every_form())?;
     let copied = copy_module(rt.alloc(), &module)?;
-    assert!(rt; copied == module);
+    holds(copied == module, "a copy is the same")?;
     drop(module);
     let again = read_module(rt.alloc(), every_form())?;
-    assert!(rt; copied == again);
-    Ok(())
+    holds(copied == again, "a copy stays the same")
 }

@@ -1,209 +1,183 @@
 // Texts of the whole language: those that are modules, and those that are refused, with fault and place.
-use crate::module_texts::{answers, answers_with, are_alike, refuses_every_front};
+use crate::module_texts::{answers, answers_with, are_alike, reads, refuses_every_front};
 use core_reader::ReadFault;
 use std::alloc::{AllocError, Global};
 use std::test::Fail;
 use test_support::holds;
 
-// Checks that each text is read.
-pub(super) fn reads(alloc: Global, table: &[&[u8]]) -> Result<(), Fail> {
-    for text in table {
-        answers_with(alloc, text, None)?;
-    }
-    Ok(())
-}
+// Modules with every form; the last ends with a line break.
+const FORMS: &str = "\
+module 'm' [( 'main'/0 -| [] )] attributes ['a' = ( {1,( 'x' -| [] )} -| [2] )] ( ( 'main'/0 -| [] ) = ( fun () -> 'ok' -| [] ) -| [] ) end
 
-// Modules with every form.
-const FORMS: [&[u8]; 15] = [
-    b"module 'm' [( 'main'/0 -| [] )] attributes ['a' = ( {1,( 'x' -| [] )} -| [2] )] ( ( 'main'/0 -| [] ) = ( fun () -> 'ok' -| [] ) -| [] ) end",
-    b"module 'm' ['main'/0] attributes [] 'main'/0 = fun () -> {5,-3,+3,-0} end",
-    b"( module 'm' ['main'/0] attributes [] 'main'/0 = fun () -> 'ok' end -| ['x'] )",
-    b"module 'm' ['main'/0] attributes [] 'main'/0 = fun () -> let <A1_@b,_X,_0,Zz> = <1,2,3,4> in {A1_@b,_X,_0,Zz} end",
-    b"module 'm' ['main'/0] attributes [] 'main'/0 = fun () -> letX = 1 in X end",
-    b"module 'm' ['main'/0] attributes [] 'main'/0 = fun () -> case {1,2} of <{X,Y}> when call 'erlang':'>'(X,Y) -> 'a' end end",
-    b"module 'm' ['main'/0] attributes [] 'main'/0 = fun () -> apply 'f'/1(10000) 'f'/1 = fun (N) -> case N of <0> when 'true' -> 'ok' <M> when 'true' -> apply 'f'/1(call 'erlang':'-'(M,1)) end end",
-    b"module 'm' ['main'/0] attributes [] 'main'/0 = fun () -> try call 'erlang':'throw'('t') of <X> -> X catch <K,R,S> -> primop 'raise'(S,R) end",
-    b"module 'm' ['main'/0] attributes [] 'main'/0 = fun () -> call 'erlang':'exit'(catch call 'erlang':'hd'([])) end",
-    b"module 'm' ['main'/0] attributes [] 'main'/0 = fun () -> let <X,Y> = 'a' in X end",
-    b"module 'm' ['main'/0] attributes [] 'main'/0 = fun () -> {call 'erlang':'error'('a'),call 'erlang':'error'('b')} end",
-    b"module 'm' ['main'/0] attributes [] 'main'/0 = fun () -> apply 'f'/1(9999) 'f'/1 = fun (N) -> case N of <0> when 'true' -> 'ok' <M> when 'true' -> apply 'f'/1(call 'erlang':'-'(M,1)) end end",
-    b"module 'm' ['main'/0,'module_info'/0]\n    attributes ['file' = [{\"m.erl\",1}]]\n'main'/0 = ( fun () ->\n  case ( 3 -| [5] ) of\n    <X> when try let <A> = call 'erlang':'hd'(X)\n                 in call 'erlang':'=:='(A,1)\n             of <V> -> V catch <T,R> -> 'false' -> 'one'\n    ( <Y> when 'true' -> 'other' -| ['compiler_generated'] )\n  end -| [{'function',{'main',0}}] )\n'module_info'/0 = fun () -> call 'erlang':'get_module_info'('m')\nend\n",
-    b"module 'm' ['main'/0] attributes [] 'main'/0 = fun () -> call 'erlang':'+'(9223372036854775807,1) end",
-    b"module 'm' ['main'/0] attributes [] 'main'/0 = fun () -> apply 'main'/0() end",
-];
+module 'm' ['main'/0] attributes [] 'main'/0 = fun () -> {5,-3,+3,-0} end
+
+( module 'm' ['main'/0] attributes [] 'main'/0 = fun () -> 'ok' end -| ['x'] )
+
+module 'm' ['main'/0] attributes [] 'main'/0 = fun () -> let <A1_@b,_X,_0,Zz> = <1,2,3,4> in {A1_@b,_X,_0,Zz} end
+
+module 'm' ['main'/0] attributes [] 'main'/0 = fun () -> letX = 1 in X end
+
+module 'm' ['main'/0] attributes [] 'main'/0 = fun () -> case {1,2} of <{X,Y}> when call 'erlang':'>'(X,Y) -> 'a' end end
+
+module 'm' ['main'/0] attributes [] 'main'/0 = fun () -> apply 'f'/1(10000) 'f'/1 = fun (N) -> case N of <0> when 'true' -> 'ok' <M> when 'true' -> apply 'f'/1(call 'erlang':'-'(M,1)) end end
+
+module 'm' ['main'/0] attributes [] 'main'/0 = fun () -> try call 'erlang':'throw'('t') of <X> -> X catch <K,R,S> -> primop 'raise'(S,R) end
+
+module 'm' ['main'/0] attributes [] 'main'/0 = fun () -> call 'erlang':'exit'(catch call 'erlang':'hd'([])) end
+
+module 'm' ['main'/0] attributes [] 'main'/0 = fun () -> let <X,Y> = 'a' in X end
+
+module 'm' ['main'/0] attributes [] 'main'/0 = fun () -> {call 'erlang':'error'('a'),call 'erlang':'error'('b')} end
+
+module 'm' ['main'/0] attributes [] 'main'/0 = fun () -> apply 'f'/1(9999) 'f'/1 = fun (N) -> case N of <0> when 'true' -> 'ok' <M> when 'true' -> apply 'f'/1(call 'erlang':'-'(M,1)) end end
+
+module 'm' ['main'/0] attributes [] 'main'/0 = fun () -> call 'erlang':'+'(9223372036854775807,1) end
+
+module 'm' ['main'/0] attributes [] 'main'/0 = fun () -> apply 'main'/0() end
+
+module 'm' ['main'/0,'module_info'/0]
+    attributes ['file' = [{\"m.erl\",1}]]
+'main'/0 = ( fun () ->
+  case ( 3 -| [5] ) of
+    <X> when try let <A> = call 'erlang':'hd'(X)
+                 in call 'erlang':'=:='(A,1)
+             of <V> -> V catch <T,R> -> 'false' -> 'one'
+    ( <Y> when 'true' -> 'other' -| ['compiler_generated'] )
+  end -| [{'function',{'main',0}}] )
+'module_info'/0 = fun () -> call 'erlang':'get_module_info'('m')
+end
+";
 
 #[test]
 fn reads_every_form(rt: HostRuntime) -> Result<(), Fail> {
-    reads(rt.alloc(), FORMS.as_slice())
+    reads(rt.alloc(), FORMS)
 }
 
 // Faults of forms.
-const FAULTS_OF_FORMS: [(&[u8], ReadFault); 40] = [
-    (
-        b"module 'm' ['main'/0] attributes [] 'main'/0 = fun () -> case 1 of <X = X> when 'true' -> 1 end end",
-        ReadFault::DuplicateVariable(72),
-    ),
-    (
-        b"module 'm' ['main'/0] attributes [] 'main'/0 = fun () -> apply ( X -| [] )(1) end",
-        ReadFault::HigherOrder(65),
-    ),
-    (
-        b"module 'm' ['main'/0] attributes [] 'main'/0 = fun () -> apply 'main'/2(1) end",
-        ReadFault::Expected(73),
-    ),
-    (
-        b"module 'm' ['main'/0] attributes [] 'main'/0 = fun () -> apply 'main'/0(1) end",
-        ReadFault::Expected(72),
-    ),
-    (
-        b"module 'm' ['main'/0] attributes [] 'main'/0 = fun () -> apply 'main'() end",
-        ReadFault::HigherOrder(63),
-    ),
-    (
-        b"module 'm' ['main'/0] attributes [] 'main'/0 = fun () -> apply 'f' 'g' end",
-        ReadFault::Expected(67),
-    ),
-    (
-        b"module 'm' ['main'/0] attributes [] 'main'/0 = fun () -> apply 'g'/1(1) end",
-        ReadFault::NoFunction(63),
-    ),
-    (
-        b"module 'm' ['main'/0] attributes [] 'main'/0 = fun () -> let X = 1 in apply X() end",
-        ReadFault::HigherOrder(76),
-    ),
-    (
-        b"module 'm' ['main'/0] attributes [] 'main'/0 = fun () -> call ( X -| [] ):'y'() end",
-        ReadFault::UnsupportedCall(57),
-    ),
-    (
-        b"module 'm' ['main'/0] attributes [] 'main'/0 = fun () -> call 'a':'b'(call 'c':'d'()) end",
-        ReadFault::UnsupportedCall(57),
-    ),
-    (
-        b"module 'm' ['main'/0] attributes [] 'main'/0 = fun () -> call 'other':'g'() end",
-        ReadFault::UnsupportedCall(57),
-    ),
-    (
-        b"module 'm' ['main'/0] attributes [] 'main'/0 = fun () -> call 'm':'g'() 'g'/0 = fun () -> 'x' end",
-        ReadFault::UnsupportedCall(57),
-    ),
-    (
-        b"module 'm' ['main'/0] attributes [] 'main'/0 = fun () -> call 'a':'b'(fun () -> 1) end",
-        ReadFault::HigherOrder(70),
-    ),
-    (
-        b"module 'm' ['main'/0] attributes [] 'main'/0 = fun () -> case 1 of end end",
-        ReadFault::Expected(67),
-    ),
-    (
-        b"module 'm' ['main'/0] attributes [] 'main'/0 = fun () -> try 1 of <A> -> A catch K -> K end",
-        ReadFault::Expected(81),
-    ),
-    (
-        b"module 'm' ['main'/0] attributes [] 'main'/0 = fun () -> try 1 of <A> -> A catch <K,R,S,T> -> K end",
-        ReadFault::Expected(87),
-    ),
-    (
-        b"module 'm' ['main'/0] attributes [] 'main'/0 = fun () -> try 1 of <A> -> A catch <K> -> K end",
-        ReadFault::Expected(83),
-    ),
-    (
-        b"module 'm' ['main'/0] attributes [] 'main'/0 = fun () -> try 1 of <A> -> A catch <K,K> -> K end",
-        ReadFault::DuplicateVariable(84),
-    ),
-    (
-        b"module 'm' ['main'/0] attributes [] 'main'/0 = fun () -> $\\q end",
-        ReadFault::BadToken(57),
-    ),
-    (
-        b"module 'm' ['main'/0] attributes [] 'main'/0 = fun () -> case 1 of <X> -> 1 end end",
-        ReadFault::Expected(71),
-    ),
-    (
-        b"module 'm' ['main'/0] attributes [] 'main'/0 = fun () -> 1. end",
-        ReadFault::BadToken(58),
-    ),
-    (
-        b"module 'm' ['main'/0] attributes [] 'main'/0 = fun () -> case 1 of <X> when apply 'main'/0() -> 1 end end",
-        ReadFault::EffectInGuard(76),
-    ),
-    (
-        b"module 'm' ['main'/0] attributes [] 'main'/0 = fun () -> case 1 of <X> when call 'm':'main'() -> 1 end end",
-        ReadFault::EffectInGuard(76),
-    ),
-    (
-        b"module 'm' ['main'/0] attributes [] 'main'/0 = fun () -> case 1 of <X> when primop 'match_fail'(1) -> 1 end end",
-        ReadFault::EffectInGuard(76),
-    ),
-    (
-        b"module 'm' ['main'/0] attributes [] 'main'/0 = fun () -> case 1 of <X> when call 'ets':'lookup'('t',1) -> 1 end end",
-        ReadFault::EffectInGuard(76),
-    ),
-    (
-        b"module 'm' ['main'/0] attributes [] 'main'/0 = fun () -> let X = 1 end",
-        ReadFault::Expected(67),
-    ),
-    (
-        b"module 'm' ['main'/0] attributes [] 'main'/0 = fun () -> let <_> = 1 in 1 end",
-        ReadFault::BadToken(62),
-    ),
-    (
-        b"module 'm' ['z'/9] attributes [] 'main'/0 = fun () -> {X,apply 'q'/0()} 'main'/0 = fun () -> 'ok' end",
-        ReadFault::NoFunction(12),
-    ),
-    (
-        b"module 'm' ['main'/0] attributes [] 'main'/0 = fun () -> {5 -3} end",
-        ReadFault::Expected(60),
-    ),
-    (
-        b"module 'm' ['main'/0] attributes [] 'main'/0 = fun () -> 12x end",
-        ReadFault::BadToken(59),
-    ),
-    (
-        b"module 'm' ['main'/0] attributes [] 'main'/0 = fun () -> case 1 of <{X,X}> when 'true' -> 1 end end",
-        ReadFault::DuplicateVariable(71),
-    ),
-    (
-        b"module 'm' ['main'/0] attributes [] 'main'/0 = fun () -> case <1,2> of <X,X> when 'true' -> 1 end end",
-        ReadFault::DuplicateVariable(74),
-    ),
-    (
-        b"module 'm' ['main'/0] attributes [] 'main'/0 = fun () -> primop 'raise'(1) end",
-        ReadFault::UnsupportedForm(57),
-    ),
-    (
-        b"module 'm' ['main'/0] attributes [] 'main'/0 = fun () -> primop 'x'(primop 'y'()) end",
-        ReadFault::UnsupportedForm(57),
-    ),
-    (
-        b"module 'm' ['main'/0] attributes [] 'main'/0 = fun () -> primop 'other'(1) end",
-        ReadFault::UnsupportedForm(57),
-    ),
-    (
-        b"module 'm' ['main'/0] attributes [] 'main'/0 = fun () -> {apply 'q'/0(),X} end",
-        ReadFault::NoFunction(64),
-    ),
-    (
-        b"module 'm' ['main'/0] attributes [] 'main'/0 = fun () -> \"abc end",
-        ReadFault::BadToken(57),
-    ),
-    (
-        b"module 'm' ['main'/0] attributes [] 'main'/0 = fun () -> case 1 of <X> when Y -> 1 end end",
-        ReadFault::Unbound(76),
-    ),
-    (
-        b"module 'm' ['main'/0] attributes [] 'main'/0 = fun () -> X end",
-        ReadFault::Unbound(57),
-    ),
-    (
-        b"module 'm' ['main'/0] attributes [] 'main'/0 = fun () -> let <X,X> = <1,2> in X end",
-        ReadFault::DuplicateVariable(64),
-    ),
-];
+const FAULTS_OF_FORMS: &str = "\
+4 DuplicateVariable at 72
+module 'm' ['main'/0] attributes [] 'main'/0 = fun () -> case 1 of <X = X> when 'true' -> 1 end end
+
+7 HigherOrder at 65
+module 'm' ['main'/0] attributes [] 'main'/0 = fun () -> apply ( X -| [] )(1) end
+
+2 Expected at 73
+module 'm' ['main'/0] attributes [] 'main'/0 = fun () -> apply 'main'/2(1) end
+
+2 Expected at 72
+module 'm' ['main'/0] attributes [] 'main'/0 = fun () -> apply 'main'/0(1) end
+
+7 HigherOrder at 63
+module 'm' ['main'/0] attributes [] 'main'/0 = fun () -> apply 'main'() end
+
+2 Expected at 67
+module 'm' ['main'/0] attributes [] 'main'/0 = fun () -> apply 'f' 'g' end
+
+6 NoFunction at 63
+module 'm' ['main'/0] attributes [] 'main'/0 = fun () -> apply 'g'/1(1) end
+
+7 HigherOrder at 76
+module 'm' ['main'/0] attributes [] 'main'/0 = fun () -> let X = 1 in apply X() end
+
+8 UnsupportedCall at 57
+module 'm' ['main'/0] attributes [] 'main'/0 = fun () -> call ( X -| [] ):'y'() end
+
+8 UnsupportedCall at 57
+module 'm' ['main'/0] attributes [] 'main'/0 = fun () -> call 'a':'b'(call 'c':'d'()) end
+
+8 UnsupportedCall at 57
+module 'm' ['main'/0] attributes [] 'main'/0 = fun () -> call 'other':'g'() end
+
+8 UnsupportedCall at 57
+module 'm' ['main'/0] attributes [] 'main'/0 = fun () -> call 'm':'g'() 'g'/0 = fun () -> 'x' end
+
+7 HigherOrder at 70
+module 'm' ['main'/0] attributes [] 'main'/0 = fun () -> call 'a':'b'(fun () -> 1) end
+
+2 Expected at 67
+module 'm' ['main'/0] attributes [] 'main'/0 = fun () -> case 1 of end end
+
+2 Expected at 81
+module 'm' ['main'/0] attributes [] 'main'/0 = fun () -> try 1 of <A> -> A catch K -> K end
+
+2 Expected at 87
+module 'm' ['main'/0] attributes [] 'main'/0 = fun () -> try 1 of <A> -> A catch <K,R,S,T> -> K end
+
+2 Expected at 83
+module 'm' ['main'/0] attributes [] 'main'/0 = fun () -> try 1 of <A> -> A catch <K> -> K end
+
+4 DuplicateVariable at 84
+module 'm' ['main'/0] attributes [] 'main'/0 = fun () -> try 1 of <A> -> A catch <K,K> -> K end
+
+1 BadToken at 57
+module 'm' ['main'/0] attributes [] 'main'/0 = fun () -> $\\q end
+
+2 Expected at 71
+module 'm' ['main'/0] attributes [] 'main'/0 = fun () -> case 1 of <X> -> 1 end end
+
+1 BadToken at 58
+module 'm' ['main'/0] attributes [] 'main'/0 = fun () -> 1. end
+
+9 EffectInGuard at 76
+module 'm' ['main'/0] attributes [] 'main'/0 = fun () -> case 1 of <X> when apply 'main'/0() -> 1 end end
+
+9 EffectInGuard at 76
+module 'm' ['main'/0] attributes [] 'main'/0 = fun () -> case 1 of <X> when call 'm':'main'() -> 1 end end
+
+9 EffectInGuard at 76
+module 'm' ['main'/0] attributes [] 'main'/0 = fun () -> case 1 of <X> when primop 'match_fail'(1) -> 1 end end
+
+9 EffectInGuard at 76
+module 'm' ['main'/0] attributes [] 'main'/0 = fun () -> case 1 of <X> when call 'ets':'lookup'('t',1) -> 1 end end
+
+2 Expected at 67
+module 'm' ['main'/0] attributes [] 'main'/0 = fun () -> let X = 1 end
+
+1 BadToken at 62
+module 'm' ['main'/0] attributes [] 'main'/0 = fun () -> let <_> = 1 in 1 end
+
+6 NoFunction at 12
+module 'm' ['z'/9] attributes [] 'main'/0 = fun () -> {X,apply 'q'/0()} 'main'/0 = fun () -> 'ok' end
+
+2 Expected at 60
+module 'm' ['main'/0] attributes [] 'main'/0 = fun () -> {5 -3} end
+
+1 BadToken at 59
+module 'm' ['main'/0] attributes [] 'main'/0 = fun () -> 12x end
+
+4 DuplicateVariable at 71
+module 'm' ['main'/0] attributes [] 'main'/0 = fun () -> case 1 of <{X,X}> when 'true' -> 1 end end
+
+4 DuplicateVariable at 74
+module 'm' ['main'/0] attributes [] 'main'/0 = fun () -> case <1,2> of <X,X> when 'true' -> 1 end end
+
+14 UnsupportedForm at 57
+module 'm' ['main'/0] attributes [] 'main'/0 = fun () -> primop 'raise'(1) end
+
+14 UnsupportedForm at 57
+module 'm' ['main'/0] attributes [] 'main'/0 = fun () -> primop 'x'(primop 'y'()) end
+
+14 UnsupportedForm at 57
+module 'm' ['main'/0] attributes [] 'main'/0 = fun () -> primop 'other'(1) end
+
+6 NoFunction at 64
+module 'm' ['main'/0] attributes [] 'main'/0 = fun () -> {apply 'q'/0(),X} end
+
+1 BadToken at 57
+module 'm' ['main'/0] attributes [] 'main'/0 = fun () -> \"abc end
+
+3 Unbound at 76
+module 'm' ['main'/0] attributes [] 'main'/0 = fun () -> case 1 of <X> when Y -> 1 end end
+
+3 Unbound at 57
+module 'm' ['main'/0] attributes [] 'main'/0 = fun () -> X end
+
+4 DuplicateVariable at 64
+module 'm' ['main'/0] attributes [] 'main'/0 = fun () -> let <X,X> = <1,2> in X end";
 
 #[test]
 fn names_faults_of_forms(rt: HostRuntime) -> Result<(), Fail> {
-    answers(rt.alloc(), FAULTS_OF_FORMS.as_slice())
+    answers(rt.alloc(), FAULTS_OF_FORMS)
 }
 
 // What a compiler writes of a small module, as Core Erlang 1.0.3.
@@ -247,24 +221,24 @@ fn around(
     Ok((text, place))
 }
 
-// Each place of an expression in another one, and how far before its end the form has the first token one level deeper:
+// How far before its end a form has the first token one level deeper, and the form, with `?` in the place of an expression:
 // a thousand levels are read, one more is not.
-const PLACES: [(&[u8], &[u8], usize); 14] = [
-    (b"{", b"}", 0),
-    (b"[", b"]", 0),
-    (b"[1|", b"]", 2),
-    (b"<", b">", 0),
-    (b"( ", b" -| [] )", 0),
-    (b"let X = 1 in ", b"", 5),
-    (b"let <X> = ", b" in 1", 0),
-    (b"do 1 ", b"", 2),
-    (b"case ", b" of X when 'true' -> 1 end", 0),
-    (b"case 1 of X when 'true' -> ", b" end", 22),
-    (b"catch ", b"", 0),
-    (b"try ", b" of X -> 1 catch <A,B> -> 2", 0),
-    (b"call 'erlang':'hd'(", b")", 0),
-    (b"primop 'match_fail'(", b")", 0),
-];
+const PLACES: &str = "\
+0 {?}
+0 [?]
+2 [1|?]
+0 <?>
+0 ( ? -| [] )
+5 let X = 1 in ?
+0 let <X> = ? in 1
+2 do 1 ?
+0 case ? of X when 'true' -> 1 end
+22 case 1 of X when 'true' -> ? end
+0 catch ?
+0 try ? of X -> 1 catch <A,B> -> 2
+0 call 'erlang':'hd'(?)
+0 primop 'match_fail'(?)
+";
 
 // Checks that a text is read, twice to the same module.
 fn reads_alike(alloc: Global, text: &[u8]) -> Result<(), Fail> {
@@ -290,16 +264,28 @@ fn stops_past_the_limit(
     answers_with(alloc, text.as_slice(), Some(fault))
 }
 
-// Checks that a form is read a thousand levels deep, and not one level deeper.
-pub(super) fn nests(alloc: Global, front: &[u8], back: &[u8], before: usize) -> Result<(), Fail> {
-    nests_to_the_limit(alloc, front, back)?;
-    stops_past_the_limit(alloc, front, back, before)
+// The number of a row, and its form before and after the expression.
+fn split_row(row: &str) -> Option<(usize, &str, &str)> {
+    let (before, form) = row.split_once(' ')?;
+    let (front, back) = form.split_once('?')?;
+    Some((before.parse().ok()?, front, back))
+}
+
+// Checks that the form of a row is read a thousand levels deep, and not one level deeper.
+fn nests(alloc: Global, row: &str) -> Result<(), Fail> {
+    let (before, front, back) = split_row(row).ok_or("a row has a number and a form")?;
+    nests_to_the_limit(alloc, front.as_bytes(), back.as_bytes())?;
+    stops_past_the_limit(alloc, front.as_bytes(), back.as_bytes(), before)
+}
+
+pub(super) fn all_nest(alloc: Global, rows: &str) -> Result<(), Fail> {
+    for row in rows.lines() {
+        nests(alloc, row)?;
+    }
+    Ok(())
 }
 
 #[test]
 fn nests_a_thousand_levels_in_every_place(rt: HostRuntime) -> Result<(), Fail> {
-    for (front, back, before) in PLACES {
-        nests(rt.alloc(), front, back, before)?;
-    }
-    Ok(())
+    all_nest(rt.alloc(), PLACES)
 }

@@ -1,11 +1,11 @@
 // Modules read from tokens, also from those of more than a text of lawful length.
 use core_reader::{Module, read_tokens};
 use core_tokens::{ReadFault, tokens};
-use core_tree::Expr;
+use core_tree::{Definition, Expr, FunctionName};
 use std::alloc::{AllocError, Global};
 use std::fmt::Write;
 use std::test::Fail;
-use test_support::{holds, nested};
+use test_support::{holds, nested, same};
 
 // What the tokens of a text spell.
 fn read(alloc: Global, text: &str) -> Result<Module, ReadFault> {
@@ -16,83 +16,81 @@ fn read(alloc: Global, text: &str) -> Result<Module, ReadFault> {
 const MODULE: &str =
     "module 'm' [ 'main' / 0 ] attributes [ 'a' = { 1 , [ 'x' | 2 ] } ] 'main' / 0 = fun ( ) -> let < X > = call 'ets' : 'new' ( 't' , [ ] ) in X end";
 
-#[test]
-fn reads_a_module(rt: HostRuntime) -> Result<(), Fail> {
-    let module = read(rt.alloc(), MODULE)?;
-    assert_eq!(rt; module.name.as_str(), "m");
-    assert_eq!(rt; module.exports.len(), 1);
-    assert_eq!(rt; module.attributes.len(), 1);
-    assert_eq!(rt; module.definitions.len(), 1);
+// Checks that this is `main/0` at its place, with a `let` for a body.
+fn is_main(name: &FunctionName, definition: &Definition) -> Result<(), Fail> {
+    same(name.name.as_str().as_bytes(), b"main")?;
+    holds(name.arity == 0, "it has no parameter")?;
+    holds(definition.at == 67, "it is at 67")?;
+    holds(matches!(definition.body, Expr::Let(_)), "its body is a let")
+}
+
+// Checks that a module has this one function.
+fn has_main(module: &Module) -> Result<(), Fail> {
+    same(module.name.as_str().as_bytes(), b"m")?;
+    holds(module.exports.len() == 1, "there is one export")?;
+    holds(module.attributes.len() == 1, "there is one attribute")?;
+    holds(module.definitions.len() == 1, "there is one definition")?;
     for (name, definition) in &module.definitions {
-        assert_eq!(rt; name.name.as_str(), "main");
-        assert_eq!(rt; name.arity, 0);
-        assert_eq!(rt; definition.at, 67);
-        assert!(rt; matches!(definition.body, Expr::Let(_)));
+        is_main(name, definition)?;
     }
     Ok(())
 }
 
-// Texts that are no modules, and the first fault.
-const FAULTS: [(&str, ReadFault); 16] = [
-    ("module 'm' [ ] attributes [ ] end", ReadFault::NoMain(30)),
-    (
-        "module 'm' [ ] attributes [ ] end 'x'",
-        ReadFault::Expected(34),
-    ),
-    ("module 'm' [ ] attributes [ ]", ReadFault::Expected(29)),
-    (
-        "module 'm' [ 'f' / 1 ] attributes [ ] 'main' / 0 = fun ( ) -> 1 end",
-        ReadFault::NoFunction(13),
-    ),
-    (
-        "module 'm' [ ] attributes [ ] 'main' / 0 = fun ( X ) -> X end",
-        ReadFault::Expected(49),
-    ),
-    (
-        "module 'm' [ ] attributes [ ] 'main' / 0 = fun ( ) -> X end",
-        ReadFault::Unbound(54),
-    ),
-    (
-        "module 'm' [ ] attributes [ ] 'f' / 2 = fun ( X , X ) -> X end",
-        ReadFault::DuplicateVariable(50),
-    ),
-    (
-        "module 'm' [ ] attributes [ ] 'f' / 0 = fun ( ) -> 1 'f' / 0 = fun ( ) -> 1 end",
-        ReadFault::DuplicateFunction(53),
-    ),
-    (
-        "module 'm' [ ] attributes [ ] 'f' / 0 = fun ( ) -> fun end",
-        ReadFault::HigherOrder(51),
-    ),
-    (
-        "module 'm' [ ] attributes [ ] 'f' / 0 = fun ( ) -> 'f' / 0 end",
-        ReadFault::HigherOrder(51),
-    ),
-    (
-        "module 'm' [ ] attributes [ ] 'f' / 0 = fun ( ) -> case end",
-        ReadFault::Expected(56),
-    ),
-    (
-        "module 'm' [ ] attributes [ ] 'f' / 0 = fun ( ) -> { 1 , # } end",
-        ReadFault::UnsupportedForm(57),
-    ),
-    (
-        "module 'm' [ ] attributes [ ] 'f' / 0 = fun ( ) -> call X : 'b' ( ) end",
-        ReadFault::UnsupportedCall(51),
-    ),
-    (
-        "module 'm' [ ] attributes [ ] 'f' / 0 = fun ( ) -> call 'a' : 'b' ( call 'c' : 'd' ( ) ) end",
-        ReadFault::UnsupportedCall(51),
-    ),
-    (
-        "module 'm' [ ] attributes [ ] 'f' / 0 = fun ( ) -> call 'a' : 'b' ( fun ) end",
-        ReadFault::HigherOrder(68),
-    ),
-    (
-        "module 'm' [ ] attributes [ ] 'f' / 0 = fun ( ) -> { call 'a' : 'b' ( ) 2 } end",
-        ReadFault::UnsupportedCall(53),
-    ),
-];
+#[test]
+fn reads_a_module(rt: HostRuntime) -> Result<(), Fail> {
+    let module = read(rt.alloc(), MODULE)?;
+    has_main(&module)
+}
+
+// The first fault, and a text that is no module; an empty line between two of them.
+const FAULTS: &str = "\
+13 NoMain at 30
+module 'm' [ ] attributes [ ] end
+
+2 Expected at 34
+module 'm' [ ] attributes [ ] end 'x'
+
+2 Expected at 29
+module 'm' [ ] attributes [ ]
+
+6 NoFunction at 13
+module 'm' [ 'f' / 1 ] attributes [ ] 'main' / 0 = fun ( ) -> 1 end
+
+2 Expected at 49
+module 'm' [ ] attributes [ ] 'main' / 0 = fun ( X ) -> X end
+
+3 Unbound at 54
+module 'm' [ ] attributes [ ] 'main' / 0 = fun ( ) -> X end
+
+4 DuplicateVariable at 50
+module 'm' [ ] attributes [ ] 'f' / 2 = fun ( X , X ) -> X end
+
+5 DuplicateFunction at 53
+module 'm' [ ] attributes [ ] 'f' / 0 = fun ( ) -> 1 'f' / 0 = fun ( ) -> 1 end
+
+7 HigherOrder at 51
+module 'm' [ ] attributes [ ] 'f' / 0 = fun ( ) -> fun end
+
+7 HigherOrder at 51
+module 'm' [ ] attributes [ ] 'f' / 0 = fun ( ) -> 'f' / 0 end
+
+2 Expected at 56
+module 'm' [ ] attributes [ ] 'f' / 0 = fun ( ) -> case end
+
+14 UnsupportedForm at 57
+module 'm' [ ] attributes [ ] 'f' / 0 = fun ( ) -> { 1 , # } end
+
+8 UnsupportedCall at 51
+module 'm' [ ] attributes [ ] 'f' / 0 = fun ( ) -> call X : 'b' ( ) end
+
+8 UnsupportedCall at 51
+module 'm' [ ] attributes [ ] 'f' / 0 = fun ( ) -> call 'a' : 'b' ( call 'c' : 'd' ( ) ) end
+
+7 HigherOrder at 68
+module 'm' [ ] attributes [ ] 'f' / 0 = fun ( ) -> call 'a' : 'b' ( fun ) end
+
+8 UnsupportedCall at 53
+module 'm' [ ] attributes [ ] 'f' / 0 = fun ( ) -> { call 'a' : 'b' ( ) 2 } end";
 
 // Checks that the tokens of a text are read, or refused with this fault.
 fn answers_with(alloc: Global, text: &str, fault: Option<ReadFault>) -> Result<(), Fail> {
@@ -100,10 +98,25 @@ fn answers_with(alloc: Global, text: &str, fault: Option<ReadFault>) -> Result<(
     holds(answer == fault, text)
 }
 
+// The fault of a text, as text.
+fn fault_of(alloc: Global, text: &str) -> Result<String, AllocError> {
+    match read(alloc, text) {
+        Ok(_) => String::from_str(alloc, "no fault"),
+        Err(fault) => format!(in alloc; "{fault}"),
+    }
+}
+
+// Checks that the tokens of the text of a row are refused with its fault.
+fn refuses(alloc: Global, row: &str) -> Result<(), Fail> {
+    let (fault, text) = row.split_once('\n').ok_or("a row has two parts")?;
+    let found = fault_of(alloc, text)?;
+    holds(found.as_str() == fault, row)
+}
+
 #[test]
 fn finds_the_first_fault(rt: HostRuntime) -> Result<(), Fail> {
-    for (text, fault) in FAULTS {
-        answers_with(rt.alloc(), text, Some(fault))?;
+    for row in FAULTS.split("\n\n") {
+        refuses(rt.alloc(), row)?;
     }
     Ok(())
 }
@@ -168,6 +181,6 @@ fn definitions(alloc: Global, count: u64) -> Result<String, AllocError> {
 #[test]
 fn reads_70000_definitions(rt: HostRuntime) -> Result<(), Fail> {
     let text = definitions(rt.alloc(), 70_000)?;
-    assert_eq!(rt; definition_count(rt.alloc(), text.as_str())?, 70_001);
-    Ok(())
+    let count = definition_count(rt.alloc(), text.as_str())?;
+    holds(count == 70_001, "there are 70001 definitions")
 }

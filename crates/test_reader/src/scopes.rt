@@ -7,6 +7,7 @@ use indexmap::IndexMap;
 use std::alloc::{AllocError, Global};
 use std::mem::replace;
 use std::test::Fail;
+use test_support::holds;
 
 // A module that was read, as the grammar reads it; its last `end` is said to be at 30.
 fn draft_of(alloc: Global, module: Module) -> Result<Draft, AllocError> {
@@ -50,20 +51,9 @@ fn is_handed_out(alloc: Global, text: &[u8]) -> Result<bool, ReadFault> {
 
 #[test]
 fn hands_out_a_closed_module(rt: HostRuntime) -> Result<(), Fail> {
-    assert!(rt; is_handed_out(rt.alloc(), CLOSED)?);
-    Ok(())
+    let is_same = is_handed_out(rt.alloc(), CLOSED)?;
+    holds(is_same, "a closed module is handed out")
 }
-
-// How many definitions are taken away from the end, and then the fault.
-const FAULTS: [(usize, &[u8], ReadFault); 3] = [
-    (1, CLOSED, ReadFault::NoFunction(12)),
-    (2, CLOSED, ReadFault::NoFunction(12)),
-    (
-        1,
-        b"module 'm' [] attributes [] 'main'/0 = fun () -> 1 end",
-        ReadFault::NoMain(30),
-    ),
-];
 
 // The fault of a module without so many of its definitions.
 fn fault_without(alloc: Global, text: &[u8], count: usize) -> Result<Option<ReadFault>, ReadFault> {
@@ -74,11 +64,22 @@ fn fault_without(alloc: Global, text: &[u8], count: usize) -> Result<Option<Read
     Ok(closed_module(alloc, draft).err())
 }
 
+// Checks the fault of a module without so many of its definitions.
+fn has_fault_without(
+    alloc: Global,
+    text: &[u8],
+    count: usize,
+    fault: ReadFault,
+) -> Result<(), Fail> {
+    let found = fault_without(alloc, text, count)?;
+    holds(found == Some(fault), "what is not defined is named")
+}
+
+const ONLY_MAIN: &[u8] = b"module 'm' [] attributes [] 'main'/0 = fun () -> 1 end";
+
 #[test]
 fn names_what_is_not_defined(rt: HostRuntime) -> Result<(), Fail> {
-    for (count, text, fault) in FAULTS {
-        let found = fault_without(rt.alloc(), text, count)?;
-        assert_eq!(rt; found, Some(fault));
-    }
-    Ok(())
+    has_fault_without(rt.alloc(), CLOSED, 1, ReadFault::NoFunction(12))?;
+    has_fault_without(rt.alloc(), CLOSED, 2, ReadFault::NoFunction(12))?;
+    has_fault_without(rt.alloc(), ONLY_MAIN, 1, ReadFault::NoMain(30))
 }

@@ -3,14 +3,14 @@ use core_tokens::{Lexeme, ReadFault, Token, tokens};
 use std::alloc::{AllocError, Global};
 use std::fmt::Write;
 use std::test::Fail;
-use test_support::same;
+use test_support::{holds, same};
 
 // The characters of a variable.
 fn put_variable(out: &mut String, name: &[u8]) -> Result<(), AllocError> {
     for c in name {
         out.push(char::from(*c))?;
     }
-    out.push(' ')
+    Ok(())
 }
 
 // The codes of the characters of a string.
@@ -19,19 +19,19 @@ fn put_string(out: &mut String, characters: &[char]) -> Result<(), AllocError> {
     for c in characters {
         write!(out, "{},", u32::from(*c))?;
     }
-    out.push_str("\" ")
+    out.push('"')
 }
 
 // What a token holds, a string as the codes of its characters.
 fn put_lexeme(out: &mut String, lexeme: &Lexeme) -> Result<(), AllocError> {
     match lexeme {
-        Lexeme::Word(keyword) => write!(out, "{keyword:?} "),
-        Lexeme::Mark(mark) => write!(out, "{mark:?} "),
-        Lexeme::Atom(atom) => write!(out, "'{}' ", atom.as_str()),
+        Lexeme::Word(keyword) => write!(out, "{keyword:?}"),
+        Lexeme::Mark(mark) => write!(out, "{mark:?}"),
+        Lexeme::Atom(atom) => write!(out, "'{}'", atom.as_str()),
         Lexeme::Variable(name) => put_variable(out, name),
-        Lexeme::Integer(number) => write!(out, "{number} "),
-        Lexeme::Float => out.push_str("float "),
-        Lexeme::Character(c) => write!(out, "${} ", u32::from(*c)),
+        Lexeme::Integer(number) => write!(out, "{number}"),
+        Lexeme::Float => out.push_str("float"),
+        Lexeme::Character(c) => write!(out, "${}", u32::from(*c)),
         Lexeme::Text(characters) => put_string(out, characters),
     }
 }
@@ -39,7 +39,7 @@ fn put_lexeme(out: &mut String, lexeme: &Lexeme) -> Result<(), AllocError> {
 // The place of a token, and what it holds.
 fn put(out: &mut String, token: &Token) -> Result<(), AllocError> {
     let at = token.at;
-    write!(out, "{at}:")?;
+    write!(out, " {at}:")?;
     put_lexeme(out, &token.lexeme)
 }
 
@@ -54,7 +54,7 @@ fn put_all(out: &mut String, found: &[Token]) -> Result<(), AllocError> {
 fn put_answer(out: &mut String, answer: &Result<Vec<Token>, ReadFault>) -> Result<(), AllocError> {
     match answer {
         Ok(found) => put_all(out, found),
-        Err(fault) => write!(out, "{fault}"),
+        Err(fault) => write!(out, " {fault}"),
     }
 }
 
@@ -65,167 +65,148 @@ fn shown(alloc: Global, text: &[u8]) -> Result<String, AllocError> {
     Ok(out)
 }
 
+// A row has a text between backquotes, and then its tokens or its fault, a blank before each.
+
 // Blanks, comments, words and marks.
-const WORDS: [(&str, &str); 20] = [
-    ("", ""),
-    (" \t\n\r", ""),
-    ("% a comment", ""),
-    ("% a \u{e9} comment\nend % more", "15:End "),
-    ("% one\r% two\n( ", "12:LeftParenthesis "),
-    (
-        "module attributes end fun let in case of when",
-        "0:Module 7:Attributes 18:End 22:Fun 26:Let 30:In 33:Case 38:Of 41:When ",
-    ),
-    (
-        "apply call primop do try catch receive after letrec",
-        "0:Apply 6:Call 11:Primop 18:Do 21:Try 25:Catch 31:Receive 39:After 45:Letrec ",
-    ),
-    ("endx", "1 BadToken at 0"),
-    ("letX", "0:Let 3:X "),
-    ("foo", "1 BadToken at 0"),
-    ("modul", "1 BadToken at 0"),
-    ("end1", "0:End 3:1 "),
-    (
-        "()[]{}<>,|=/:#~",
-        "0:LeftParenthesis 1:RightParenthesis 2:LeftBracket 3:RightBracket 4:LeftBrace 5:RightBrace 6:Less 7:Greater 8:Comma 9:Bar 10:Equals 11:Slash 12:Colon 13:Hash 14:Tilde ",
-    ),
-    ("->-|", "0:Arrow 2:Note "),
-    ("- >", "1 BadToken at 0"),
-    ("-", "1 BadToken at 0"),
-    ("+", "1 BadToken at 0"),
-    ("-->", "1 BadToken at 0"),
-    ("-x", "1 BadToken at 0"),
-    ("-5", "0:-5 "),
-];
+const WORDS: &str = "
+``
+` \t\n\r`
+`% a comment`
+`% a \u{e9} comment\nend % more` 15:End
+`% one\r% two\n( ` 12:LeftParenthesis
+`module attributes end fun let in case of when` 0:Module 7:Attributes 18:End 22:Fun 26:Let 30:In 33:Case 38:Of 41:When
+`apply call primop do try catch receive after letrec` 0:Apply 6:Call 11:Primop 18:Do 21:Try 25:Catch 31:Receive 39:After 45:Letrec
+`endx` 1 BadToken at 0
+`letX` 0:Let 3:X
+`foo` 1 BadToken at 0
+`modul` 1 BadToken at 0
+`end1` 0:End 3:1
+`()[]{}<>,|=/:#~` 0:LeftParenthesis 1:RightParenthesis 2:LeftBracket 3:RightBracket 4:LeftBrace 5:RightBrace 6:Less 7:Greater 8:Comma 9:Bar 10:Equals 11:Slash 12:Colon 13:Hash 14:Tilde
+`->-|` 0:Arrow 2:Note
+`- >` 1 BadToken at 0
+`-` 1 BadToken at 0
+`+` 1 BadToken at 0
+`-->` 1 BadToken at 0
+`-x` 1 BadToken at 0
+`-5` 0:-5";
 
 // Signs, integers and floats.
-const NUMBERS: [(&str, &str); 21] = [
-    ("+5", "0:5 "),
-    ("-0", "0:0 "),
-    ("5-3", "0:5 1:-3 "),
-    ("5->3", "0:5 1:Arrow 3:3 "),
-    ("5+3", "0:5 1:3 "),
-    ("007", "0:7 "),
-    ("12x", "1 BadToken at 2"),
-    ("1.", "1 BadToken at 1"),
-    ("1.x", "1 BadToken at 1"),
-    ("1.5", "0:float "),
-    ("-1.5e-3", "0:float "),
-    ("1.5E+10,", "0:float 7:Comma "),
-    ("1.5e", "1 BadToken at 3"),
-    ("1.5e-", "1 BadToken at 3"),
-    ("1.5end", "0:float 3:End "),
-    ("1.5e3end", "0:float 5:End "),
-    ("12e5", "1 BadToken at 2"),
-    ("99999999999999999999999999.5", "0:float "),
-    ("1.2.3", "1 BadToken at 3"),
-    ("9223372036854775807", "0:9223372036854775807 "),
-    ("9223372036854775808", "11 BadInteger at 0"),
-];
+const NUMBERS: &str = "
+`+5` 0:5
+`-0` 0:0
+`5-3` 0:5 1:-3
+`5->3` 0:5 1:Arrow 3:3
+`5+3` 0:5 1:3
+`007` 0:7
+`12x` 1 BadToken at 2
+`1.` 1 BadToken at 1
+`1.x` 1 BadToken at 1
+`1.5` 0:float
+`-1.5e-3` 0:float
+`1.5E+10,` 0:float 7:Comma
+`1.5e` 1 BadToken at 3
+`1.5e-` 1 BadToken at 3
+`1.5end` 0:float 3:End
+`1.5e3end` 0:float 5:End
+`12e5` 1 BadToken at 2
+`99999999999999999999999999.5` 0:float
+`1.2.3` 1 BadToken at 3
+`9223372036854775807` 0:9223372036854775807
+`9223372036854775808` 11 BadInteger at 0";
 
 // Integers at the ends of their ranges, and arities.
-const RANGES: [(&str, &str); 19] = [
-    ("-9223372036854775808", "0:-9223372036854775808 "),
-    (" -9223372036854775809", "11 BadInteger at 1"),
-    ("18446744073709551617", "11 BadInteger at 0"),
-    ("99999999999999999999999999999", "11 BadInteger at 0"),
-    ("000000000000000000000000000000255", "0:255 "),
-    ("/255", "0:Slash 1:255 "),
-    ("/256", "11 BadInteger at 1"),
-    ("/ 255", "0:Slash 2:255 "),
-    ("/%c\n256", "11 BadInteger at 4"),
-    ("/ -1", "11 BadInteger at 2"),
-    ("/-0", "0:Slash 1:0 "),
-    ("/256.5", "0:Slash 1:float "),
-    ("/(256", "0:Slash 1:LeftParenthesis 2:256 "),
-    ("256/", "0:256 3:Slash "),
-    ("256 @", "1 BadToken at 4"),
-    ("/256 @", "11 BadInteger at 1"),
-    ("@ /256", "1 BadToken at 0"),
-    ("X", "0:X "),
-    ("Xyz_1@A", "0:Xyz_1@A "),
-];
+const RANGES: &str = "
+`-9223372036854775808` 0:-9223372036854775808
+` -9223372036854775809` 11 BadInteger at 1
+`18446744073709551617` 11 BadInteger at 0
+`99999999999999999999999999999` 11 BadInteger at 0
+`000000000000000000000000000000255` 0:255
+`/255` 0:Slash 1:255
+`/256` 11 BadInteger at 1
+`/ 255` 0:Slash 2:255
+`/%c\n256` 11 BadInteger at 4
+`/ -1` 11 BadInteger at 2
+`/-0` 0:Slash 1:0
+`/256.5` 0:Slash 1:float
+`/(256` 0:Slash 1:LeftParenthesis 2:256
+`256/` 0:256 3:Slash
+`256 @` 1 BadToken at 4
+`/256 @` 11 BadInteger at 1
+`@ /256` 1 BadToken at 0
+`X` 0:X
+`Xyz_1@A` 0:Xyz_1@A";
 
 // Variables and atoms.
-const NAMES: [(&str, &str); 17] = [
-    ("_", "1 BadToken at 0"),
-    ("_ X", "1 BadToken at 0"),
-    ("__", "0:__ "),
-    ("_1", "0:_1 "),
-    ("_@c", "0:_@c "),
-    ("X-1", "0:X 1:-1 "),
-    ("X\u{e9}", "1 BadToken at 1"),
-    ("'main'", "0:'main' "),
-    ("''", "0:'' "),
-    (
-        "'\u{e9}\u{20ac}\u{1f600}'X",
-        "0:'\u{e9}\u{20ac}\u{1f600}' 11:X ",
-    ),
-    ("'a b\tc'", "0:'a b\tc' "),
-    ("'\"'", "0:'\"' "),
-    (
-        "'\\b\\d\\e\\f\\n\\r\\s\\t\\v\\\\\\'\\\"'",
-        "0:'\u{8}\u{7f}\u{1b}\u{c}\n\r \t\u{b}\\'\"' ",
-    ),
-    ("'\\101\\7\\477\\1018'", "0:'A\u{7}\u{13f}A8' "),
-    ("'\\1a'", "0:'\u{1}a' "),
-    ("'\\18'", "0:'\u{1}8' "),
-    ("'\\377'", "0:'\u{ff}' "),
-];
+const NAMES: &str = "
+`_` 1 BadToken at 0
+`_ X` 1 BadToken at 0
+`__` 0:__
+`_1` 0:_1
+`_@c` 0:_@c
+`X-1` 0:X 1:-1
+`X\u{e9}` 1 BadToken at 1
+`'main'` 0:'main'
+`''` 0:''
+`'\u{e9}\u{20ac}\u{1f600}'X` 0:'\u{e9}\u{20ac}\u{1f600}' 11:X
+`'a b\tc'` 0:'a b\tc'
+`'\"'` 0:'\"'
+`'\\b\\d\\e\\f\\n\\r\\s\\t\\v\\\\\\'\\\"'` 0:'\u{8}\u{7f}\u{1b}\u{c}\n\r \t\u{b}\\'\"'
+`'\\101\\7\\477\\1018'` 0:'A\u{7}\u{13f}A8'
+`'\\1a'` 0:'\u{1}a'
+`'\\18'` 0:'\u{1}8'
+`'\\377'` 0:'\u{ff}'";
 
 // What is wrong between quotes, strings and characters.
-const QUOTES: [(&str, &str); 25] = [
-    ("'unclosed", "1 BadToken at 0"),
-    ("end 'unclosed", "1 BadToken at 4"),
-    ("'a\nb'", "1 BadToken at 0"),
-    ("'a\rb'", "1 BadToken at 0"),
-    ("'\\^c'", "1 BadToken at 0"),
-    ("'\\q'", "1 BadToken at 0"),
-    ("'\\8'", "1 BadToken at 0"),
-    ("'\\", "1 BadToken at 0"),
-    ("'", "1 BadToken at 0"),
-    ("\"\"", "0:\"\" "),
-    ("\"a\\n\u{20ac}'\"", "0:\"97,10,8364,39,\" "),
-    ("\"open", "1 BadToken at 0"),
-    ("\"a\nb\"", "1 BadToken at 0"),
-    ("$a", "0:$97 "),
-    ("$ $\n$\u{20ac}", "0:$32 2:$10 4:$8364 "),
-    ("$\\n$\\101$\\\\$'$\"", "0:$10 3:$65 8:$92 11:$39 13:$34 "),
-    ("$\\477$\\1018", "0:$319 5:$65 10:8 "),
-    ("$%c", "1 BadToken at 2"),
-    ("$\\q", "1 BadToken at 0"),
-    ("$\\", "1 BadToken at 0"),
-    ("$", "1 BadToken at 0"),
-    ("'a'\u{e9}", "1 BadToken at 3"),
-    ("; ", "1 BadToken at 0"),
-    (
-        "module 'm' ['main'/0]",
-        "0:Module 7:'m' 11:LeftBracket 12:'main' 18:Slash 19:0 20:RightBracket ",
-    ),
-    ("\u{a0}", "1 BadToken at 0"),
-];
+const QUOTES: &str = "
+`'unclosed` 1 BadToken at 0
+`end 'unclosed` 1 BadToken at 4
+`'a\nb'` 1 BadToken at 0
+`'a\rb'` 1 BadToken at 0
+`'\\^c'` 1 BadToken at 0
+`'\\q'` 1 BadToken at 0
+`'\\8'` 1 BadToken at 0
+`'\\` 1 BadToken at 0
+`'` 1 BadToken at 0
+`\"\"` 0:\"\"
+`\"a\\n\u{20ac}'\"` 0:\"97,10,8364,39,\"
+`\"open` 1 BadToken at 0
+`\"a\nb\"` 1 BadToken at 0
+`$a` 0:$97
+`$ $\n$\u{20ac}` 0:$32 2:$10 4:$8364
+`$\\n$\\101$\\\\$'$\"` 0:$10 3:$65 8:$92 11:$39 13:$34
+`$\\477$\\1018` 0:$319 5:$65 10:8
+`$%c` 1 BadToken at 2
+`$\\q` 1 BadToken at 0
+`$\\` 1 BadToken at 0
+`$` 1 BadToken at 0
+`'a'\u{e9}` 1 BadToken at 3
+`; ` 1 BadToken at 0
+`module 'm' ['main'/0]` 0:Module 7:'m' 11:LeftBracket 12:'main' 18:Slash 19:0 20:RightBracket
+`\u{a0}` 1 BadToken at 0";
 
-// Checks that a text has these tokens, or this fault.
-fn expect(alloc: Global, text: &str, want: &str) -> Result<(), Fail> {
+// Checks that the text of a row has its tokens, or its fault; the first backquote of the row is left out.
+fn expect(alloc: Global, row: &str) -> Result<(), Fail> {
+    let (text, want) = row.split_once('`').ok_or("a row has two parts")?;
     let found = shown(alloc, text.as_bytes())?;
     same(found.as_bytes(), want.as_bytes())
 }
 
-fn expect_all(alloc: Global, cases: &[(&str, &str)]) -> Result<(), Fail> {
-    for case in cases {
-        expect(alloc, case.0, case.1)?;
+// Checks each row, which is after a line break and a backquote.
+fn expect_all(alloc: Global, table: &str) -> Result<(), Fail> {
+    let rows = table.strip_prefix("\n`").ok_or("a table has a row")?;
+    for row in rows.split("\n`") {
+        expect(alloc, row)?;
     }
     Ok(())
 }
 
-const TEXTS: [&[(&str, &str)]; 5] = [&WORDS, &NUMBERS, &RANGES, &NAMES, &QUOTES];
-
 #[test]
 fn reads_tokens(rt: HostRuntime) -> Result<(), Fail> {
-    for cases in TEXTS {
-        expect_all(rt.alloc(), cases)?;
-    }
-    Ok(())
+    expect_all(rt.alloc(), WORDS)?;
+    expect_all(rt.alloc(), NUMBERS)?;
+    expect_all(rt.alloc(), RANGES)?;
+    expect_all(rt.alloc(), NAMES)?;
+    expect_all(rt.alloc(), QUOTES)
 }
 
 // The faults, and their texts.
@@ -254,11 +235,16 @@ const FAULTS: [(ReadFault, &str); 16] = [
     (ReadFault::TooLong(36), "16 TooLong at 36"),
 ];
 
+// Checks that a fault is written so.
+fn writes_fault(alloc: Global, fault: ReadFault, want: &str) -> Result<(), Fail> {
+    let text = format!(in alloc; "{fault}")?;
+    same(text.as_bytes(), want.as_bytes())
+}
+
 #[test]
 fn writes_faults(rt: HostRuntime) -> Result<(), Fail> {
-    for (fault, want) in FAULTS {
-        let text = format!(in rt.alloc(); "{fault}")?;
-        assert_eq!(rt; text.as_str(), want);
+    for (fault, want) in &FAULTS {
+        writes_fault(rt.alloc(), *fault, want)?;
     }
     Ok(())
 }
@@ -290,10 +276,10 @@ fn count(alloc: Global, text: &[u8]) -> Result<usize, ReadFault> {
 fn long_texts(rt: HostRuntime) -> Result<(), Fail> {
     let alloc = rt.alloc();
     let marks = repeated(alloc, b',', 1_000_000)?;
-    assert_eq!(rt; count(alloc, &marks)?, 1_000_000);
+    holds(count(alloc, &marks)? == 1_000_000, "each mark is a token")?;
     let mut text = open_string(alloc)?;
-    assert_eq!(rt; count(alloc, &text).err(), Some(ReadFault::BadToken(0)));
+    let fault = count(alloc, &text).err();
+    holds(fault == Some(ReadFault::BadToken(0)), "a string is closed")?;
     text.push(b'"')?;
-    assert_eq!(rt; count(alloc, &text)?, 1);
-    Ok(())
+    holds(count(alloc, &text)? == 1, "a string is one token")
 }

@@ -7,7 +7,7 @@ use core_tree::{
 use std::alloc::{AllocError, Global};
 use std::test::Fail;
 use term_core::Atom;
-use test_support::holds;
+use test_support::{holds, same};
 
 // Calls with their names and numbers of arguments.
 const CALL_NAMES: [(CallKind, &str, &str, usize); 7] = [
@@ -20,16 +20,20 @@ const CALL_NAMES: [(CallKind, &str, &str, usize); 7] = [
     (CallKind::DeleteKey, "ets", "delete", 2),
 ];
 
+// Checks that a call has these names, and is found by them and by the number of its arguments.
+fn is_named(kind: CallKind, module: &str, function: &str, arity: usize) -> Result<(), Fail> {
+    same(kind.module_name().as_bytes(), module.as_bytes())?;
+    same(kind.function_name().as_bytes(), function.as_bytes())?;
+    let found = CallKind::named(module, function, arity);
+    holds(found == Some(kind), function)
+}
+
 #[test]
-fn names_calls(rt: HostRuntime) {
-    for (kind, module_name, function_name, arity) in CALL_NAMES {
-        assert_eq!(rt; kind.module_name(), module_name);
-        assert_eq!(rt; kind.function_name(), function_name);
-        assert_eq!(rt;
-            CallKind::named(module_name, function_name, arity),
-            Some(kind)
-        );
+fn names_calls() -> Result<(), Fail> {
+    for (kind, module, function, arity) in &CALL_NAMES {
+        is_named(*kind, module, function, *arity)?;
     }
+    Ok(())
 }
 
 // Pure calls with their names and numbers of arguments.
@@ -44,120 +48,144 @@ const PURE_CALL_NAMES: [(PureCall, &str, &str, usize); 8] = [
     (PureCall::AppendLists, "lists", "append", 2),
 ];
 
+// Checks that a call is found by its names and the number of its arguments, and not by a number greater by 3.
+fn is_found(call: PureCall, module: &str, function: &str, arity: usize) -> Result<(), Fail> {
+    let found = PureCall::named(module, function, arity);
+    holds(found == Some(call), function)?;
+    let more = arity.saturating_add(3);
+    let found = PureCall::named(module, function, more);
+    holds(found.is_none(), function)
+}
+
 #[test]
-fn finds_pure_calls(rt: HostRuntime) {
-    for (call, module_name, function_name, arity) in PURE_CALL_NAMES {
-        assert_eq!(rt;
-            PureCall::named(module_name, function_name, arity),
-            Some(call)
-        );
-        assert_eq!(rt;
-            PureCall::named(module_name, function_name, arity + 3),
-            None
-        );
+fn finds_pure_calls() -> Result<(), Fail> {
+    for (call, module, function, arity) in &PURE_CALL_NAMES {
+        is_found(*call, module, function, *arity)?;
     }
+    Ok(())
 }
 
 // The texts below differ from one another, and each part of each form differs between two of them.
 
 // Expressions in which `A` and `B` are bound.
-const EXPRESSIONS: [&str; 53] = [
-    "1",
-    "2",
-    "$a",
-    "$b",
-    "\"\"",
-    "\"a\"",
-    "\"ab\"",
-    "'a'",
-    "'b'",
-    "A",
-    "B",
-    "{}",
-    "{1,1}",
-    "{1,2}",
-    "[]",
-    "[1,1]",
-    "[1,2]",
-    "<>",
-    "<1,1>",
-    "<1,2>",
-    "[1|1]",
-    "[1,1|1]",
-    "[2|1]",
-    "[1|2]",
-    "let <A> = 1 in 1",
-    "let <B> = 1 in 1",
-    "let <A> = 2 in 1",
-    "let <A> = 1 in 2",
-    "do 1 1",
-    "do 2 1",
-    "do 1 2",
-    "catch 1",
-    "catch 2",
-    "try 1 of <A> -> 1 catch <C,D> -> 1",
-    "try 1 of <B> -> 1 catch <C,D> -> 1",
-    "try 1 of <A> -> 1 catch <E,D> -> 1",
-    "try 2 of <A> -> 1 catch <C,D> -> 1",
-    "try 1 of <A> -> 2 catch <C,D> -> 1",
-    "try 1 of <A> -> 1 catch <C,D> -> 2",
-    "case 1 of <7,1> when 1 -> 1 <7,1> when 1 -> 1 end",
-    "case 1 of <7,1> when 1 -> 1 <7,1> when 1 -> 1 <7,1> when 1 -> 1 end",
-    "case 2 of <7,1> when 1 -> 1 end",
-    "case 1 of <7,1> when 2 -> 1 end",
-    "case 1 of <7,1> when 1 -> 2 end",
-    "receive after 1 -> 1",
-    "receive after 2 -> 1",
-    "receive after 1 -> 2",
-    "receive 7 when 1 -> 1 after 1 -> 1",
-    "receive 8 when 1 -> 1 after 1 -> 1",
-    "receive 7 when 1 -> 2 after 1 -> 1",
-    "receive 7 when 1 -> 1 7 when 1 -> 1 after 1 -> 1",
-    "call 'ets':'insert'(1,1)",
-    "call 'ets':'insert'(1,2)",
-];
+const EXPRESSIONS: &str = "\
+1
+2
+$a
+$b
+\"\"
+\"a\"
+\"ab\"
+'a'
+'b'
+A
+B
+{}
+{1,1}
+{1,2}
+[]
+[1,1]
+[1,2]
+<>
+<1,1>
+<1,2>
+[1|1]
+[1,1|1]
+[2|1]
+[1|2]
+let <A> = 1 in 1
+let <B> = 1 in 1
+let <A> = 2 in 1
+let <A> = 1 in 2
+do 1 1
+do 2 1
+do 1 2
+catch 1
+catch 2
+try 1 of <A> -> 1 catch <C,D> -> 1
+try 1 of <B> -> 1 catch <C,D> -> 1
+try 1 of <A> -> 1 catch <E,D> -> 1
+try 2 of <A> -> 1 catch <C,D> -> 1
+try 1 of <A> -> 2 catch <C,D> -> 1
+try 1 of <A> -> 1 catch <C,D> -> 2
+case 1 of <7,1> when 1 -> 1 <7,1> when 1 -> 1 end
+case 1 of <7,1> when 1 -> 1 <7,1> when 1 -> 1 <7,1> when 1 -> 1 end
+case 2 of <7,1> when 1 -> 1 end
+case 1 of <7,1> when 2 -> 1 end
+case 1 of <7,1> when 1 -> 2 end
+receive after 1 -> 1
+receive after 2 -> 1
+receive after 1 -> 2
+receive 7 when 1 -> 1 after 1 -> 1
+receive 8 when 1 -> 1 after 1 -> 1
+receive 7 when 1 -> 2 after 1 -> 1
+receive 7 when 1 -> 1 7 when 1 -> 1 after 1 -> 1
+call 'ets':'insert'(1,1)
+call 'ets':'insert'(1,2)
+";
 
 // Patterns.
-const PATTERNS: [&str; 23] = [
-    "1", "2", "$a", "$b", "\"a\"", "\"b\"", "'a'", "'b'", "A", "B", "{}", "{1,1}", "{1,2}", "[]",
-    "[1,1]", "[1,2]", "[1|1]", "[1,1|1]", "[2|1]", "[1|2]", "A = 1", "B = 1", "A = 2",
-];
+const PATTERNS: &str = "\
+1
+2
+$a
+$b
+\"a\"
+\"b\"
+'a'
+'b'
+A
+B
+{}
+{1,1}
+{1,2}
+[]
+[1,1]
+[1,2]
+[1|1]
+[1,1|1]
+[2|1]
+[1|2]
+A = 1
+B = 1
+A = 2
+";
 
 // Exports and attributes.
-const FRONTS: [&str; 22] = [
-    "['f'/1] attributes []",
-    "['f'/2] attributes []",
-    "['g'/1] attributes []",
-    "[] attributes ['a' = 1]",
-    "[] attributes ['a' = 2]",
-    "[] attributes ['a' = $a]",
-    "[] attributes ['a' = $b]",
-    "[] attributes ['a' = \"a\"]",
-    "[] attributes ['a' = \"b\"]",
-    "[] attributes ['a' = 'a']",
-    "[] attributes ['a' = 'b']",
-    "[] attributes ['a' = {}]",
-    "[] attributes ['a' = {1,1}]",
-    "[] attributes ['a' = {1,2}]",
-    "[] attributes ['a' = []]",
-    "[] attributes ['a' = [1,1]]",
-    "[] attributes ['a' = [1,2]]",
-    "[] attributes ['a' = [1|1]]",
-    "[] attributes ['a' = [1,1|1]]",
-    "[] attributes ['a' = [2|1]]",
-    "[] attributes ['a' = [1|2]]",
-    "[] attributes ['b' = 1]",
-];
+const FRONTS: &str = "\
+['f'/1] attributes []
+['f'/2] attributes []
+['g'/1] attributes []
+[] attributes ['a' = 1]
+[] attributes ['a' = 2]
+[] attributes ['a' = $a]
+[] attributes ['a' = $b]
+[] attributes ['a' = \"a\"]
+[] attributes ['a' = \"b\"]
+[] attributes ['a' = 'a']
+[] attributes ['a' = 'b']
+[] attributes ['a' = {}]
+[] attributes ['a' = {1,1}]
+[] attributes ['a' = {1,2}]
+[] attributes ['a' = []]
+[] attributes ['a' = [1,1]]
+[] attributes ['a' = [1,2]]
+[] attributes ['a' = [1|1]]
+[] attributes ['a' = [1,1|1]]
+[] attributes ['a' = [2|1]]
+[] attributes ['a' = [1|2]]
+[] attributes ['b' = 1]
+";
 
 // Modules by their names and their definitions in order.
-const WHOLE: [&str; 6] = [
-    "module 'm' [] attributes [] 'main'/0 = fun () -> 1 end",
-    "module 'n' [] attributes [] 'main'/0 = fun () -> 1 end",
-    "module 'm' [] attributes [] 'f'/1 = fun (A) -> 1 'g'/1 = fun (A) -> 1 'main'/0 = fun () -> 1 end",
-    "module 'm' [] attributes [] 'g'/1 = fun (A) -> 1 'f'/1 = fun (A) -> 1 'main'/0 = fun () -> 1 end",
-    "module 'm' [] attributes [] 'f'/1 = fun (A) -> 1 'g'/2 = fun (A,B) -> 1 'main'/0 = fun () -> 1 end",
-    "module 'm' [] attributes [] 'f'/1 = fun (A) -> 1 'g'/1 = fun (B) -> 1 'main'/0 = fun () -> 1 end",
-];
+const WHOLE: &str = "\
+module 'm' [] attributes [] 'main'/0 = fun () -> 1 end
+module 'n' [] attributes [] 'main'/0 = fun () -> 1 end
+module 'm' [] attributes [] 'f'/1 = fun (A) -> 1 'g'/1 = fun (A) -> 1 'main'/0 = fun () -> 1 end
+module 'm' [] attributes [] 'g'/1 = fun (A) -> 1 'f'/1 = fun (A) -> 1 'main'/0 = fun () -> 1 end
+module 'm' [] attributes [] 'f'/1 = fun (A) -> 1 'g'/2 = fun (A,B) -> 1 'main'/0 = fun () -> 1 end
+module 'm' [] attributes [] 'f'/1 = fun (A) -> 1 'g'/1 = fun (B) -> 1 'main'/0 = fun () -> 1 end
+";
 
 // The functions that the other modules have, except for the one with the expression.
 const FUNCTIONS: &str =
@@ -187,7 +215,7 @@ const NO_FRONT: &str = "[] attributes []";
 
 // The modules with the expressions above.
 fn push_expressions(alloc: Global, all: &mut Vec<Module>, shift: &str) -> Result<(), ReadFault> {
-    for expression in EXPRESSIONS {
+    for expression in EXPRESSIONS.lines() {
         let text = text_of(alloc, shift, NO_FRONT, "", expression, "")?;
         push_module(alloc, all, text.as_str())?;
     }
@@ -196,7 +224,7 @@ fn push_expressions(alloc: Global, all: &mut Vec<Module>, shift: &str) -> Result
 
 // The modules with the patterns above.
 fn push_patterns(alloc: Global, all: &mut Vec<Module>, shift: &str) -> Result<(), ReadFault> {
-    for pattern in PATTERNS {
+    for pattern in PATTERNS.lines() {
         let after = "> when 1 -> 1 end";
         let text = text_of(alloc, shift, NO_FRONT, "case 1 of <7,", pattern, after)?;
         push_module(alloc, all, text.as_str())?;
@@ -206,7 +234,7 @@ fn push_patterns(alloc: Global, all: &mut Vec<Module>, shift: &str) -> Result<()
 
 // The modules with the fronts above.
 fn push_fronts(alloc: Global, all: &mut Vec<Module>, shift: &str) -> Result<(), ReadFault> {
-    for front in FRONTS {
+    for front in FRONTS.lines() {
         let text = text_of(alloc, shift, front, "", "0", "")?;
         push_module(alloc, all, text.as_str())?;
     }
@@ -215,7 +243,7 @@ fn push_fronts(alloc: Global, all: &mut Vec<Module>, shift: &str) -> Result<(), 
 
 // The whole modules above.
 fn push_whole(alloc: Global, all: &mut Vec<Module>, shift: &str) -> Result<(), ReadFault> {
-    for whole in WHOLE {
+    for whole in WHOLE.lines() {
         let text = format!(in alloc; "{shift}{whole}")?;
         push_module(alloc, all, text.as_str())?;
     }
@@ -265,7 +293,7 @@ fn are_apart(here: &[Module], there: &[Module]) -> Result<(), Fail> {
 fn compares_modules_but_for_places(rt: HostRuntime) -> Result<(), Fail> {
     let here = modules(rt.alloc(), "")?;
     let there = modules(rt.alloc(), "     ")?;
-    assert_eq!(rt; here.len(), 104);
+    holds(here.len() == 104, "there are 104 modules")?;
     are_apart(&here, &there)
 }
 
@@ -387,13 +415,15 @@ fn define(
     Ok(())
 }
 
+const SMALLEST: &[u8] = b"module 'm' [] attributes [] 'main'/0 = fun () -> 1 end";
+
 /// A module of no text: a definition is added to one that was read.
 fn with_definition(
     alloc: Global,
     at: usize,
     row: &(&str, u8, &str, usize),
 ) -> Result<Module, ReadFault> {
-    let mut module = read_module(alloc, WHOLE[0].as_bytes())?;
+    let mut module = read_module(alloc, SMALLEST)?;
     define(alloc, &mut module, at, row)?;
     Ok(module)
 }

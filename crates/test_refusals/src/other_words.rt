@@ -1,618 +1,269 @@
 // The words that are refused.
+use crate::asked::{rows_of, words_of};
 use program_runs::{NAME, read_words, run};
 use search_expansion::Unwatched;
+use std::alloc::Global;
+use std::sync::Wait;
 use std::test::Fail;
-use test_support::{MemorySink, MemorySource};
+use std::thread::Threads;
+use test_support::{MemorySink, MemorySource, holds, nested, same};
 
-// Words of a command except for what they excuse, for their format, for what they ask for together, or where they look
-// for jobs, and the first line of what is said of them.
-const UNREADABLE: [(&[&str], &str); 49] = [
-    (
-        &[NAME, "explore", "--depth", "1", "--normal", "boom"],
-        "error: 'boom' is no term: see its byte 1\n",
-    ),
-    (
-        &[
-            NAME, "check", "--depth", "1", "--normal", "[]", "--normal", "{'late'",
-        ],
-        "error: '{'late'' is no term: see its byte 8\n",
-    ),
-    (
-        &[NAME, "explore", "--depth", "1", "--normal", ""],
-        "error: '' is no term: see its byte 1\n",
-    ),
-    (
-        &[
-            NAME,
-            "explore",
-            "--depth",
-            "1",
-            "--normal",
-            "9223372036854775808",
-        ],
-        "error: '9223372036854775808' is no term: see its byte 1\n",
-    ),
-    (
-        &[
-            NAME,
-            "explore",
-            "--main-deadlock",
-            "--depth",
-            "1",
-            "--allow-deadlock",
-        ],
-        "error: only one of the arguments '--allow-deadlock', '--main-deadlock' and '--idle-servers' can be used\n",
-    ),
-    (
-        &[
-            NAME,
-            "explore",
-            "--idle-servers",
-            "--depth",
-            "1",
-            "--allow-deadlock",
-        ],
-        "error: only one of the arguments '--allow-deadlock', '--main-deadlock' and '--idle-servers' can be used\n",
-    ),
-    (
-        &[
-            NAME,
-            "check",
-            "--depth",
-            "1",
-            "--main-deadlock",
-            "--idle-servers",
-        ],
-        "error: only one of the arguments '--allow-deadlock', '--main-deadlock' and '--idle-servers' can be used\n",
-    ),
-    (
-        &[
-            NAME,
-            "explore",
-            "--allow-deadlock",
-            "--main-deadlock",
-            "--idle-servers",
-            "--depth",
-            "1",
-        ],
-        "error: only one of the arguments '--allow-deadlock', '--main-deadlock' and '--idle-servers' can be used\n",
-    ),
-    (
-        &[
-            NAME, "check", "--depth", "1", "--normal", "[]", "--normal", "[]", "--normal", "[]",
-            "--normal", "[]", "--normal", "[]", "--normal", "[]", "--normal", "[]", "--normal",
-            "[]", "--normal", "[]", "--normal", "[]", "--normal", "[]", "--normal", "[]",
-            "--normal", "[]", "--normal", "[]", "--normal", "[]", "--normal", "[]", "--normal",
-            "[]",
-        ],
-        "error: the argument '--normal' cannot be used more than 16 times\n",
-    ),
-    (
-        &[
-            NAME, "explore", "--depth", "1", "--job", " | ", "--normal", "boom",
-        ],
-        "error: 'boom' is no term: see its byte 1\n",
-    ),
-    (
-        &[
-            NAME,
-            "explore",
-            "--depth",
-            "1",
-            "--job",
-            "P | ",
-            "--explain",
-        ],
-        "error: the argument '--job' cannot be used with '--explain', '--cover' or '--format terms'\n",
-    ),
-    (
-        &[NAME, "explore", "--cover", "--depth", "1", "--job", ""],
-        "error: the argument '--job' cannot be used with '--explain', '--cover' or '--format terms'\n",
-    ),
-    (
-        &[NAME, "explore", "--depth", "3", "--states", "--cover"],
-        "error: the arguments '--states' and '--at-once' cannot be used with '--cover' or '--job'\n",
-    ),
-    (
-        &[NAME, "explore", "--depth", "3", "--job", "P | ", "--states"],
-        "error: the arguments '--states' and '--at-once' cannot be used with '--cover' or '--job'\n",
-    ),
-    (
-        &[
-            NAME,
-            "explore",
-            "--states",
-            "--explain",
-            "--depth",
-            "3",
-            "--job",
-            "",
-        ],
-        "error: the arguments '--states' and '--at-once' cannot be used with '--cover' or '--job'\n",
-    ),
-    (
-        &[NAME, "explore", "--depth", "3", "--at-once", "--cover"],
-        "error: the arguments '--states' and '--at-once' cannot be used with '--cover' or '--job'\n",
-    ),
-    (
-        &[
-            NAME,
-            "explore",
-            "--at-once",
-            "--depth",
-            "3",
-            "--job",
-            "P | ",
-        ],
-        "error: the arguments '--states' and '--at-once' cannot be used with '--cover' or '--job'\n",
-    ),
-    (
-        &[
-            NAME,
-            "explore",
-            "--cover",
-            "--states",
-            "--depth",
-            "3",
-            "--at-once",
-        ],
-        "error: the arguments '--states' and '--at-once' cannot be used with '--cover' or '--job'\n",
-    ),
-    (
-        &[
-            NAME,
-            "explore",
-            "--states",
-            "--job",
-            "",
-            "--at-once",
-            "--depth",
-            "3",
-        ],
-        "error: the arguments '--states' and '--at-once' cannot be used with '--cover' or '--job'\n",
-    ),
-    (
-        &[
-            NAME,
-            "explore",
-            "--depth",
-            "3",
-            "--at-once",
-            "--normal",
-            "boom",
-        ],
-        "error: 'boom' is no term: see its byte 1\n",
-    ),
-    (
-        &[
-            NAME, "explore", "--depth", "3", "--states", "--normal", "boom",
-        ],
-        "error: 'boom' is no term: see its byte 1\n",
-    ),
-    (
-        &[NAME, "jobs", "--depth", "3", "--at", "4"],
-        "error: invalid value '4' for '--at <D>': 4 is not in 0..=3\n",
-    ),
-    (
-        &[
-            NAME, "jobs", "--depth", "1", "--at", "0", "--normal", "boom",
-        ],
-        "error: 'boom' is no term: see its byte 1\n",
-    ),
-    (
-        &[
-            NAME,
-            "jobs",
-            "--main-deadlock",
-            "--depth",
-            "1",
-            "--allow-deadlock",
-            "--at",
-            "1",
-        ],
-        "error: only one of the arguments '--allow-deadlock', '--main-deadlock' and '--idle-servers' can be used\n",
-    ),
-    (
-        &[
-            NAME,
-            "jobs",
-            "--idle-servers",
-            "--depth",
-            "1",
-            "--main-deadlock",
-            "--at",
-            "1",
-        ],
-        "error: only one of the arguments '--allow-deadlock', '--main-deadlock' and '--idle-servers' can be used\n",
-    ),
-    (
-        &[NAME, "merge", "--at", "400", "--depth", "399"],
-        "error: invalid value '400' for '--at <D>': 400 is not in 0..=399\n",
-    ),
-    (
-        &[
-            NAME, "merge", "--depth", "2", "--at", "1", "--normal", "{'late'",
-        ],
-        "error: '{'late'' is no term: see its byte 8\n",
-    ),
-    (
-        &[
-            NAME,
-            "merge",
-            "--allow-deadlock",
-            "--at",
-            "1",
-            "--main-deadlock",
-            "--depth",
-            "1",
-        ],
-        "error: only one of the arguments '--allow-deadlock', '--main-deadlock' and '--idle-servers' can be used\n",
-    ),
-    (
-        &[
-            NAME,
-            "merge",
-            "--allow-deadlock",
-            "--at",
-            "1",
-            "--idle-servers",
-            "--depth",
-            "1",
-        ],
-        "error: only one of the arguments '--allow-deadlock', '--main-deadlock' and '--idle-servers' can be used\n",
-    ),
-    (
-        &[
-            NAME, "merge", "--depth", "1", "--at", "1", "--normal", "[]", "--normal", "[]",
-            "--normal", "[]", "--normal", "[]", "--normal", "[]", "--normal", "[]", "--normal",
-            "[]", "--normal", "[]", "--normal", "[]", "--normal", "[]", "--normal", "[]",
-            "--normal", "[]", "--normal", "[]", "--normal", "[]", "--normal", "[]", "--normal",
-            "[]", "--normal", "[]",
-        ],
-        "error: the argument '--normal' cannot be used more than 16 times\n",
-    ),
-    (
-        &[
-            NAME, "sample", "--depth", "1", "--normal", "'boom'", "--normal", "boom",
-        ],
-        "error: 'boom' is no term: see its byte 1\n",
-    ),
-    (
-        &[
-            NAME,
-            "sample",
-            "--allow-deadlock",
-            "--depth",
-            "1",
-            "--main-deadlock",
-        ],
-        "error: only one of the arguments '--allow-deadlock', '--main-deadlock' and '--idle-servers' can be used\n",
-    ),
-    (
-        &[
-            NAME,
-            "sample",
-            "--main-deadlock",
-            "--depth",
-            "1",
-            "--idle-servers",
-        ],
-        "error: only one of the arguments '--allow-deadlock', '--main-deadlock' and '--idle-servers' can be used\n",
-    ),
-    (
-        &[
-            NAME, "sample", "--depth", "1", "--normal", "[]", "--normal", "[]", "--normal", "[]",
-            "--normal", "[]", "--normal", "[]", "--normal", "[]", "--normal", "[]", "--normal",
-            "[]", "--normal", "[]", "--normal", "[]", "--normal", "[]", "--normal", "[]",
-            "--normal", "[]", "--normal", "[]", "--normal", "[]", "--normal", "[]", "--normal",
-            "[]",
-        ],
-        "error: the argument '--normal' cannot be used more than 16 times\n",
-    ),
-    (
-        &[NAME, "explore", "--depth", "1", "--format", "xml"],
-        "error: the argument '--format' takes 'text' or 'terms'\n",
-    ),
-    (
-        &[NAME, "explore", "--format", "", "--depth", "1"],
-        "error: the argument '--format' takes 'text' or 'terms'\n",
-    ),
-    (
-        &[
-            NAME,
-            "explore",
-            "--format",
-            "Terms",
-            "--depth",
-            "1",
-            "--explain",
-        ],
-        "error: the argument '--format' takes 'text' or 'terms'\n",
-    ),
-    (
-        &[
-            NAME, "explore", "--states", "--depth", "1", "--format", "terms ",
-        ],
-        "error: the argument '--format' takes 'text' or 'terms'\n",
-    ),
-    (
-        &[
-            NAME, "explore", "--depth", "1", "--format", "texts", "--job", "P | ",
-        ],
-        "error: the argument '--format' takes 'text' or 'terms'\n",
-    ),
-    (
-        &[
-            NAME, "explore", "--cover", "--depth", "1", "--format", "term",
-        ],
-        "error: the argument '--format' takes 'text' or 'terms'\n",
-    ),
-    (
-        &[NAME, "sample", "--depth", "1", "--format", "xml"],
-        "error: the argument '--format' takes 'text' or 'terms'\n",
-    ),
-    (
-        &[
-            NAME,
-            "sample",
-            "--format",
-            "",
-            "--explain",
-            "--at-once",
-            "--depth",
-            "1",
-        ],
-        "error: the argument '--format' takes 'text' or 'terms'\n",
-    ),
-    (
-        &[
-            NAME, "explore", "--depth", "1", "--job", "P | ", "--format", "terms",
-        ],
-        "error: the argument '--job' cannot be used with '--explain', '--cover' or '--format terms'\n",
-    ),
-    (
-        &[
-            NAME,
-            "explore",
-            "--format",
-            "terms",
-            "--explain",
-            "--depth",
-            "1",
-            "--job",
-            "",
-        ],
-        "error: the argument '--job' cannot be used with '--explain', '--cover' or '--format terms'\n",
-    ),
-    (
-        &[
-            NAME, "explore", "--depth", "1", "--cover", "--format", "terms",
-        ],
-        "error: the argument '--format terms' cannot be used with '--cover'\n",
-    ),
-    (
-        &[
-            NAME,
-            "explore",
-            "--format",
-            "terms",
-            "--explain",
-            "--cover",
-            "--depth",
-            "1",
-        ],
-        "error: the argument '--format terms' cannot be used with '--cover'\n",
-    ),
-    (
-        &[
-            NAME, "explore", "--format", "terms", "--cover", "--depth", "1", "--job", "P | ",
-        ],
-        "error: the argument '--format terms' cannot be used with '--cover'\n",
-    ),
-    (
-        &[
-            NAME, "explore", "--format", "terms", "--cover", "--depth", "1", "--states",
-        ],
-        "error: the arguments '--states' and '--at-once' cannot be used with '--cover' or '--job'\n",
-    ),
-    (
-        &[
-            NAME, "sample", "--format", "xml", "--depth", "1", "--normal", "boom",
-        ],
-        "error: 'boom' is no term: see its byte 1\n",
-    ),
-];
+// What is said of words. They are not those of a command.
+fn refusal(alloc: Global, words: &[&str]) -> Result<String, Fail> {
+    match read_words(alloc, words) {
+        Ok(_) => Err(Fail::new(format_args!("{words:?} are those of a command"))),
+        Err(error) => Ok(format!(in alloc; "{error}")?),
+    }
+}
+
+// The first lines of what is said of words, each above words of which it is said: words of a command except for what they
+// excuse, for their format, for what they ask for together, or where they look for jobs.
+const UNREADABLE: &str = r#"
+error: 'boom' is no term: see its byte 1
+explore --depth 1 --normal boom
+explore --depth 1 --job " | " --normal boom
+explore --depth 3 --at-once --normal boom
+explore --depth 3 --states --normal boom
+jobs --depth 1 --at 0 --normal boom
+sample --depth 1 --normal 'boom' --normal boom
+sample --format xml --depth 1 --normal boom
+
+error: '{'late'' is no term: see its byte 8
+check --depth 1 --normal [] --normal {'late'
+merge --depth 2 --at 1 --normal {'late'
+
+error: '' is no term: see its byte 1
+explore --depth 1 --normal ""
+
+error: '9223372036854775808' is no term: see its byte 1
+explore --depth 1 --normal 9223372036854775808
+
+error: only one of the arguments '--allow-deadlock', '--main-deadlock' and '--idle-servers' can be used
+explore --main-deadlock --depth 1 --allow-deadlock
+explore --idle-servers --depth 1 --allow-deadlock
+check --depth 1 --main-deadlock --idle-servers
+explore --allow-deadlock --main-deadlock --idle-servers --depth 1
+jobs --main-deadlock --depth 1 --allow-deadlock --at 1
+jobs --idle-servers --depth 1 --main-deadlock --at 1
+merge --allow-deadlock --at 1 --main-deadlock --depth 1
+merge --allow-deadlock --at 1 --idle-servers --depth 1
+sample --allow-deadlock --depth 1 --main-deadlock
+sample --main-deadlock --depth 1 --idle-servers
+
+error: the argument '--job' cannot be used with '--explain', '--cover' or '--format terms'
+explore --depth 1 --job "P | " --explain
+explore --cover --depth 1 --job ""
+explore --depth 1 --job "P | " --format terms
+explore --format terms --explain --depth 1 --job ""
+
+error: the arguments '--states' and '--at-once' cannot be used with '--cover' or '--job'
+explore --depth 3 --states --cover
+explore --depth 3 --job "P | " --states
+explore --states --explain --depth 3 --job ""
+explore --depth 3 --at-once --cover
+explore --at-once --depth 3 --job "P | "
+explore --cover --states --depth 3 --at-once
+explore --states --job "" --at-once --depth 3
+explore --format terms --cover --depth 1 --states
+
+error: invalid value '4' for '--at <D>': 4 is not in 0..=3
+jobs --depth 3 --at 4
+
+error: invalid value '400' for '--at <D>': 400 is not in 0..=399
+merge --at 400 --depth 399
+
+error: the argument '--format' takes 'text' or 'terms'
+explore --depth 1 --format xml
+explore --format "" --depth 1
+explore --format Terms --depth 1 --explain
+explore --states --depth 1 --format "terms "
+explore --depth 1 --format texts --job "P | "
+explore --cover --depth 1 --format term
+sample --depth 1 --format xml
+sample --format "" --explain --at-once --depth 1
+
+error: the argument '--format terms' cannot be used with '--cover'
+explore --depth 1 --cover --format terms
+explore --format terms --explain --cover --depth 1
+explore --format terms --cover --depth 1 --job "P | "
+"#;
+
+// Checks that the first line of what is said of words is this one.
+fn is_told(alloc: Global, words: &str, wanted: &str) -> Result<(), Fail> {
+    let text = refusal(alloc, words_of(alloc, words)?.as_slice())?;
+    let Some((line, _)) = text.as_str().split_once('\n') else {
+        return Err(Fail::from("what is said of words has a line"));
+    };
+    same(line.as_bytes(), wanted.as_bytes())
+}
+
+// Checks that the first line of a block is that of what is said of the words on each other line.
+fn are_told(alloc: Global, block: &str) -> Result<(), Fail> {
+    let Some((wanted, rows)) = block.split_once('\n') else {
+        return Err(Fail::from("a block has words below its first line"));
+    };
+    for words in rows.lines() {
+        is_told(alloc, words, wanted)?;
+    }
+    Ok(())
+}
 
 #[test]
 fn tells_why_words_are_unreadable(rt: HostRuntime) -> Result<(), Fail> {
-    for (words, line) in UNREADABLE {
-        let Err(error) = read_words(rt.alloc(), words) else {
-            return Err(Fail::from("the words are those of a command"));
-        };
-        let text = format!(in rt.alloc(); "{error}")?;
-        assert!(rt; text.starts_with(line), "{text}");
+    for block in rows_of(UNREADABLE)?.split("\n\n") {
+        are_told(rt.alloc(), block)?;
     }
     Ok(())
 }
 
-// Words of no command.
-const REFUSED: [&[&str]; 100] = [
-    &[NAME],
-    &[NAME, "replay"],
-    &[NAME, "replay", "P", "P"],
-    &[NAME, "explore"],
-    &[NAME, "explore", "--depth", "401"],
-    &[NAME, "explore", "--depth", "-1"],
-    &[NAME, "explore", "--depth", "3", "--nodes", "0"],
-    &[NAME, "explore", "--depth", "3", "--nodes", "10000001"],
-    &[NAME, "explore", "--depth", "3", "--workers", "17"],
-    &[NAME, "check"],
-    &[NAME, "check", "--depth", "401"],
-    &[NAME, "check", "--depth", "3", "--cover"],
-    &[NAME, "explore", "--depth", "1", "--normal"],
-    &[
-        NAME,
-        "check",
-        "--depth",
-        "1",
-        "--main-deadlock",
-        "--main-deadlock",
-    ],
-    &[
-        NAME,
-        "explore",
-        "--depth",
-        "1",
-        "--idle-servers",
-        "--idle-servers",
-    ],
-    &[NAME, "sample", "--depth", "1", "--idle-servers", "true"],
-    &[NAME, "explore", "--depth", "3", "--job"],
-    &[NAME, "explore", "--depth", "3", "--job", "-P | "],
-    &[
-        NAME, "explore", "--depth", "3", "--job", "P | ", "--job", "P | ",
-    ],
-    &[NAME, "explore", "--depth", "3", "--at", "1"],
-    &[NAME, "explore", "--depth", "3", "--states", "--states"],
-    &[NAME, "explore", "--depth", "3", "--states", "3"],
-    &[NAME, "explore", "--depth", "3", "--at-once", "--at-once"],
-    &[
-        NAME,
-        "explore",
-        "--depth",
-        "3",
-        "--at-once",
-        "--states",
-        "--at-once",
-    ],
-    &[
-        NAME,
-        "explore",
-        "--depth",
-        "3",
-        "--states",
-        "--states",
-        "--at-once",
-    ],
-    &[NAME, "explore", "--depth", "3", "--at-once", "3"],
-    &[NAME, "explore", "--depth", "3", "--at-once=true"],
-    &[NAME, "check", "--depth", "3", "--states"],
-    &[NAME, "check", "--depth", "3", "--at-once"],
-    &[NAME, "check", "--depth", "3", "--job", "P | "],
-    &[NAME, "check", "--depth", "3", "--at", "1"],
-    &[NAME, "jobs"],
-    &[NAME, "jobs", "--depth", "3"],
-    &[NAME, "jobs", "--at", "3"],
-    &[NAME, "jobs", "--depth", "401", "--at", "3"],
-    &[NAME, "jobs", "--depth", "400", "--at", "401"],
-    &[NAME, "jobs", "--depth", "3", "--at", "-1"],
-    &[NAME, "jobs", "--depth", "3", "--at", "1", "--at", "1"],
-    &[NAME, "jobs", "--depth", "3", "--at", "1", "--nodes", "5"],
-    &[NAME, "jobs", "--depth", "3", "--at", "1", "--cover"],
-    &[NAME, "jobs", "--depth", "3", "--at", "1", "--states"],
-    &[NAME, "jobs", "--depth", "3", "--at", "1", "--at-once"],
-    &[NAME, "jobs", "--depth", "3", "--at", "1", "--job", "P | "],
-    &[NAME, "jobs", "--help"],
-    &[NAME, "merge"],
-    &[NAME, "merge", "--depth", "3"],
-    &[NAME, "merge", "--at", "3"],
-    &[NAME, "merge", "--depth", "401", "--at", "3"],
-    &[NAME, "merge", "--depth", "400", "--at", "401"],
-    &[NAME, "merge", "--depth", "3", "--at", "1", "--depth", "3"],
-    &[NAME, "merge", "--depth", "3", "--at", "1", "--at", "1"],
-    &[NAME, "merge", "--depth", "3", "--at", "1", "--nodes", "5"],
-    &[NAME, "merge", "--depth", "3", "--at", "1", "--workers", "2"],
-    &[NAME, "merge", "--depth", "3", "--at", "1", "--explain"],
-    &[NAME, "merge", "--depth", "3", "--at", "1", "--states"],
-    &[NAME, "merge", "--depth", "3", "--at", "1", "--at-once"],
-    &[NAME, "merge", "--depth", "3", "--at", "1", "--job", "P | "],
-    &[NAME, "merge", "--depth", "3", "--at", "1", "m.reports"],
-    &[NAME, "merge", "--help"],
-    &[NAME, "sample"],
-    &[NAME, "sample", "--runs", "5", "--seed", "5"],
-    &[NAME, "sample", "--depth", "401"],
-    &[NAME, "sample", "--depth", "3", "--depth", "3"],
-    &[NAME, "sample", "--depth", "3", "--runs"],
-    &[NAME, "sample", "--depth", "3", "--runs", "0"],
-    &[NAME, "sample", "--depth", "3", "--runs", "1000001"],
-    &[NAME, "sample", "--depth", "3", "--runs", "5", "--runs", "5"],
-    &[NAME, "sample", "--depth", "3", "--seed", "4294967296"],
-    &[NAME, "sample", "--depth", "3", "--seed", "-1"],
-    &[NAME, "sample", "--depth", "3", "--seed", "5", "--seed", "6"],
-    &[NAME, "sample", "--depth", "3", "--at-once", "--at-once"],
-    &[NAME, "sample", "--depth", "3", "--explain", "--explain"],
-    &[NAME, "sample", "--depth", "3", "--nodes", "5"],
-    &[NAME, "sample", "--depth", "3", "--workers", "2"],
-    &[NAME, "sample", "--depth", "3", "--cover"],
-    &[NAME, "sample", "--depth", "3", "--states"],
-    &[NAME, "sample", "--depth", "3", "--at", "1"],
-    &[NAME, "sample", "--depth", "3", "--job", "P | "],
-    &[NAME, "sample", "--depth", "3", "m.core"],
-    &[NAME, "sample", "--help"],
-    &[NAME, "explore", "--depth", "3", "--runs", "5"],
-    &[NAME, "explore", "--depth", "3", "--seed", "5"],
-    &[NAME, "check", "--depth", "3", "--runs", "5"],
-    &[NAME, "check", "--depth", "3", "--seed", "5"],
-    &[NAME, "jobs", "--depth", "3", "--at", "1", "--runs", "5"],
-    &[NAME, "merge", "--depth", "3", "--at", "1", "--seed", "5"],
-    &[NAME, "explore", "--depth", "3", "--format"],
-    &[NAME, "explore", "--depth", "3", "--format", "-terms"],
-    &[
-        NAME, "explore", "--depth", "3", "--format", "terms", "--format", "terms",
-    ],
-    &[
-        NAME, "explore", "--format", "text", "--depth", "3", "--format", "terms",
-    ],
-    &[NAME, "sample", "--depth", "3", "--format"],
-    &[
-        NAME, "sample", "--format", "text", "--format", "text", "--depth", "3",
-    ],
-    &[NAME, "check", "--depth", "3", "--format", "text"],
-    &[
-        NAME, "jobs", "--depth", "3", "--at", "1", "--format", "text",
-    ],
-    &[
-        NAME, "merge", "--depth", "3", "--at", "1", "--format", "terms",
-    ],
-    &[NAME, "replay", "P", "--format", "terms"],
-    &[NAME, "replay", "P", "--normal", "[]"],
-    &[NAME, "help"],
-    &[NAME, "--help"],
-    &[NAME, "replay", "--help"],
-];
-
-#[test]
-fn refuses_other_words(rt: HostRuntime) {
-    for words in REFUSED {
-        assert!(rt; read_words(rt.alloc(), words).is_err(), "{words:?}");
-    }
+// Checks that seventeen reasons after these words are one too many.
+fn are_too_many(alloc: Global, words: &str) -> Result<(), Fail> {
+    let line = nested(alloc, words, " --normal []", 17, "", "")?;
+    let wanted = "error: the argument '--normal' cannot be used more than 16 times";
+    is_told(alloc, line.as_str(), wanted)
 }
 
-// They end the program with status 64. Nothing is read, and the third stream alone gets the parser's text.
 #[test]
-fn reports_other_words(rt: HostRuntime) -> Result<(), Fail> {
-    for words in REFUSED {
-        let mut input = MemorySource::in_pieces(b"", 1, 0);
-        let mut output = MemorySink::with_room(rt.alloc(), 0)?;
-        let mut errors = MemorySink::with_room(rt.alloc(), 4000)?;
-        let status = run(
-            &rt,
-            rt.alloc(),
-            words,
-            &mut input,
-            &mut output,
-            &mut errors,
-            &Unwatched,
-        );
-        assert_eq!(rt; status, 64, "{words:?}");
-        assert!(rt; !input.has_failed && !output.has_failed);
-        let Err(error) = read_words(rt.alloc(), words) else {
-            return Err(Fail::from("the words are those of a command"));
-        };
-        let text = format!(in rt.alloc(); "{error}")?;
-        assert_eq!(rt; errors.bytes.as_slice(), text.as_bytes());
+fn tells_that_reasons_are_too_many(rt: HostRuntime) -> Result<(), Fail> {
+    are_too_many(rt.alloc(), "check --depth 1")?;
+    are_too_many(rt.alloc(), "merge --depth 1 --at 1")?;
+    are_too_many(rt.alloc(), "sample --depth 1")
+}
+
+// Words of no command, after the name of the program.
+const REFUSED: &str = r#"
+replay
+replay P P
+explore
+explore --depth 401
+explore --depth -1
+explore --depth 3 --nodes 0
+explore --depth 3 --nodes 10000001
+explore --depth 3 --workers 17
+check
+check --depth 401
+check --depth 3 --cover
+explore --depth 1 --normal
+check --depth 1 --main-deadlock --main-deadlock
+explore --depth 1 --idle-servers --idle-servers
+sample --depth 1 --idle-servers true
+explore --depth 3 --job
+explore --depth 3 --job "-P | "
+explore --depth 3 --job "P | " --job "P | "
+explore --depth 3 --at 1
+explore --depth 3 --states --states
+explore --depth 3 --states 3
+explore --depth 3 --at-once --at-once
+explore --depth 3 --at-once --states --at-once
+explore --depth 3 --states --states --at-once
+explore --depth 3 --at-once 3
+explore --depth 3 --at-once=true
+check --depth 3 --states
+check --depth 3 --at-once
+check --depth 3 --job "P | "
+check --depth 3 --at 1
+jobs
+jobs --depth 3
+jobs --at 3
+jobs --depth 401 --at 3
+jobs --depth 400 --at 401
+jobs --depth 3 --at -1
+jobs --depth 3 --at 1 --at 1
+jobs --depth 3 --at 1 --nodes 5
+jobs --depth 3 --at 1 --cover
+jobs --depth 3 --at 1 --states
+jobs --depth 3 --at 1 --at-once
+jobs --depth 3 --at 1 --job "P | "
+jobs --help
+merge
+merge --depth 3
+merge --at 3
+merge --depth 401 --at 3
+merge --depth 400 --at 401
+merge --depth 3 --at 1 --depth 3
+merge --depth 3 --at 1 --at 1
+merge --depth 3 --at 1 --nodes 5
+merge --depth 3 --at 1 --workers 2
+merge --depth 3 --at 1 --explain
+merge --depth 3 --at 1 --states
+merge --depth 3 --at 1 --at-once
+merge --depth 3 --at 1 --job "P | "
+merge --depth 3 --at 1 m.reports
+merge --help
+sample
+sample --runs 5 --seed 5
+sample --depth 401
+sample --depth 3 --depth 3
+sample --depth 3 --runs
+sample --depth 3 --runs 0
+sample --depth 3 --runs 1000001
+sample --depth 3 --runs 5 --runs 5
+sample --depth 3 --seed 4294967296
+sample --depth 3 --seed -1
+sample --depth 3 --seed 5 --seed 6
+sample --depth 3 --at-once --at-once
+sample --depth 3 --explain --explain
+sample --depth 3 --nodes 5
+sample --depth 3 --workers 2
+sample --depth 3 --cover
+sample --depth 3 --states
+sample --depth 3 --at 1
+sample --depth 3 --job "P | "
+sample --depth 3 m.core
+sample --help
+explore --depth 3 --runs 5
+explore --depth 3 --seed 5
+check --depth 3 --runs 5
+check --depth 3 --seed 5
+jobs --depth 3 --at 1 --runs 5
+merge --depth 3 --at 1 --seed 5
+explore --depth 3 --format
+explore --depth 3 --format -terms
+explore --depth 3 --format terms --format terms
+explore --format text --depth 3 --format terms
+sample --depth 3 --format
+sample --format text --format text --depth 3
+check --depth 3 --format text
+jobs --depth 3 --at 1 --format text
+merge --depth 3 --at 1 --format terms
+replay P --format terms
+replay P --normal []
+help
+--help
+replay --help
+"#;
+
+// Checks that words are refused, and end the program with status 64: nothing is read, and the third stream alone gets the
+// parser's text.
+fn is_refused<T: Threads + Wait + Sync>(rt: &T, alloc: Global, words: &[&str]) -> Result<(), Fail> {
+    let text = refusal(alloc, words)?;
+    let mut input = MemorySource::in_pieces(b"", 1, 0);
+    let mut output = MemorySink::with_room(alloc, 0)?;
+    let mut errors = MemorySink::with_room(alloc, 4000)?;
+    let status = run(
+        rt,
+        alloc,
+        words,
+        &mut input,
+        &mut output,
+        &mut errors,
+        &Unwatched,
+    );
+    holds(status == 64, "they end with another status")?;
+    holds(
+        !input.has_failed && !output.has_failed,
+        "something is read or written",
+    )?;
+    same(errors.bytes.as_slice(), text.as_bytes())
+}
+
+#[test]
+fn refuses_and_reports_other_words(rt: HostRuntime) -> Result<(), Fail> {
+    let alloc = rt.alloc();
+    for words in rows_of(REFUSED)?.lines() {
+        is_refused(&rt, alloc, words_of(alloc, words)?.as_slice())?;
     }
-    Ok(())
+    is_refused(&rt, alloc, &[NAME])
 }
 
 // What `sample --help` says.
@@ -670,10 +321,6 @@ Example:
 
 #[test]
 fn says_how_to_sample(rt: HostRuntime) -> Result<(), Fail> {
-    let Err(error) = read_words(rt.alloc(), &[NAME, "sample", "--help"]) else {
-        return Err(Fail::from("the words are those of a command"));
-    };
-    let text = format!(in rt.alloc(); "{error}")?;
-    assert_eq!(rt; text.as_str(), HELP_OF_SAMPLE);
-    Ok(())
+    let text = refusal(rt.alloc(), &[NAME, "sample", "--help"])?;
+    same(text.as_bytes(), HELP_OF_SAMPLE.as_bytes())
 }

@@ -2,7 +2,7 @@
 use core_tokens::ReadFault;
 use program_runs::{InputFault, NAME, ReplayFault, RunFault, Verdict, run, status, write_fault};
 use search_expansion::Unwatched;
-use std::alloc::{AllocError, Global};
+use std::alloc::Global;
 use std::sync::Wait;
 use std::test::Fail;
 use std::thread::Threads;
@@ -10,7 +10,7 @@ use term_core::ScheduleFault;
 use test_support::{MemorySink, MemorySource, holds, same};
 
 // Refusals with their status and their line.
-const REFUSALS: [(RunFault, u8, &[u8]); 9] = [
+const REFUSALS: &[(RunFault, u8, &[u8])] = &[
     (
         RunFault::Input(ReadFault::BadToken(7)),
         2,
@@ -69,8 +69,11 @@ fn tells(alloc: Global, fault: RunFault, number: u8, line: &[u8]) -> Result<(), 
 
 #[test]
 fn tells_each_refusal_by_its_status_and_its_line(rt: HostRuntime) -> Result<(), Fail> {
-    assert_eq!(rt; status(&Ok(Verdict::Done)), 0);
-    for (fault, number, line) in REFUSALS {
+    holds(
+        status(&Ok(Verdict::Done)) == 0,
+        "what is done has the status 0",
+    )?;
+    for &(fault, number, line) in REFUSALS {
         tells(rt.alloc(), fault, number, line)?;
     }
     tells(
@@ -95,117 +98,87 @@ fn tells_each_refusal_by_its_status_and_its_line(rt: HostRuntime) -> Result<(), 
 }
 
 // A table is made, and an object is written.
-const TABLE: &[u8] =
-    b"module 'm' ['main'/0] attributes [] 'main'/0 = fun () -> do call 'ets':'new'('t',['named_table']) call 'ets':'insert'('t',{'a',1}) end";
+const TABLE: &str =
+    "module 'm' ['main'/0] attributes [] 'main'/0 = fun () -> do call 'ets':'new'('t',['named_table']) call 'ets':'insert'('t',{'a',1}) end";
 
-const LINES: &[u8] =
-    b"1 P ets:new('t',['named_table']) -> 't'\n2 P ets:insert('t',{'a',1}) -> 'true'\n3 P ends 'normal'\n";
+const LINES: &str =
+    "1 P ets:new('t',['named_table']) -> 't'\n2 P ets:insert('t',{'a',1}) -> 'true'\n3 P ends 'normal'\n";
 
-const FIRST_LINE: &[u8] = b"1 P ets:new('t',['named_table']) -> 't'\n";
+const FIRST_LINE: &str = "1 P ets:new('t',['named_table']) -> 't'\n";
 
 // What the streams allow: how many reads, how many bytes of output, how many flushes of it.
-const SOUND: (u64, usize, u64) = (u64::MAX, 1000, u64::MAX);
+type Allowed = (u64, usize, u64);
 
-// A module, a schedule and what the streams allow; then the status, the output, and the line of a refusal.
-const RUNS: [(&[u8], &str, (u64, usize, u64), u8, &[u8], &[u8]); 11] = [
-    (TABLE, "P P P", SOUND, 0, LINES, b""),
-    (TABLE, "", SOUND, 0, b"", b""),
-    (
-        b"module 'm",
-        "P",
-        SOUND,
-        2,
-        b"",
-        b"input: 1 BadToken at 7\n",
-    ),
-    (TABLE, " P", SOUND, 2, b"", b"schedule: 1 BadStep at 0\n"),
-    (TABLE, "P ", SOUND, 2, b"", b"schedule: 1 BadStep at 2\n"),
-    (
-        TABLE,
-        "P P.9",
-        SOUND,
-        2,
-        FIRST_LINE,
-        b"replay: 1 NotEnabled at step 2\n",
-    ),
-    // a read fails
-    (
-        TABLE,
-        "P P P",
-        (0, 1000, u64::MAX),
-        2,
-        b"",
-        b"input: read failed\n",
-    ),
-    // a write fails, and only the flush at the end, after a whole replay and after one that stopped
-    (
-        TABLE,
-        "P P P",
-        (u64::MAX, FIRST_LINE.len(), u64::MAX),
-        4,
-        FIRST_LINE,
-        b"output failed\n",
-    ),
-    (
-        TABLE,
-        "P P P",
-        (u64::MAX, 1000, 0),
-        4,
-        LINES,
-        b"output failed\n",
-    ),
-    (
-        TABLE,
-        "P P.9",
-        (u64::MAX, 1000, 0),
-        4,
-        FIRST_LINE,
-        b"output failed\n",
-    ),
-    // nothing was written, so nothing is flushed
-    (
-        b"module 'm",
-        "P",
-        (u64::MAX, 1000, 0),
-        2,
-        b"",
-        b"input: 1 BadToken at 7\n",
-    ),
-];
+const SOUND: Allowed = (u64::MAX, 1000, u64::MAX);
 
-// The status, the output and what is reported about a run of a module and a schedule, where the streams allow so many
-// reads, so many bytes of output, and so many flushes of it.
-fn reported<T: Threads + Wait + Sync>(
+const NO_READ: Allowed = (0, 1000, u64::MAX);
+
+const NO_FLUSH: Allowed = (u64::MAX, 1000, 0);
+
+// Checks that a run of a module and a schedule has this status and this output, and the line of a refusal, where the
+// streams allow so many reads, so many bytes of output, and so many flushes of it.
+fn reports<T: Threads + Wait + Sync>(
     rt: &T,
     alloc: Global,
-    module: &[u8],
-    schedule: &str,
-    allowed: (u64, usize, u64),
-) -> Result<(u8, Vec<u8>, Vec<u8>), AllocError> {
-    let (reads, room, flushes) = allowed;
-    let mut input = MemorySource::in_pieces(module, usize::MAX, reads);
+    (module, schedule, (reads, room, flushes)): (&str, &str, Allowed),
+    (number, lines, line): (u8, &str, &str),
+) -> Result<(), Fail> {
+    let mut input = MemorySource::in_pieces(module.as_bytes(), usize::MAX, reads);
     let mut output = MemorySink::with_flushes(alloc, room, flushes)?;
     let mut errors = MemorySink::with_room(alloc, 100)?;
-    let words = [NAME, "replay", schedule];
     let status = run(
         rt,
         alloc,
-        &words,
+        &[NAME, "replay", schedule],
         &mut input,
         &mut output,
         &mut errors,
         &Unwatched,
     );
-    Ok((status, output.bytes, errors.bytes))
+    holds(status == number, "the run has another status")?;
+    same(output.bytes.as_slice(), lines.as_bytes())?;
+    same(errors.bytes.as_slice(), line.as_bytes())
 }
+
+const CUT: &str = "module 'm";
 
 #[test]
 fn reports_a_run_by_its_status_and_its_line(rt: HostRuntime) -> Result<(), Fail> {
-    for (module, schedule, allowed, number, lines, line) in RUNS {
-        let (status, output, errors) = reported(&rt, rt.alloc(), module, schedule, allowed)?;
-        assert_eq!(rt; status, number, "{schedule}");
-        assert_eq!(rt; output.as_slice(), lines);
-        assert_eq!(rt; errors.as_slice(), line);
-    }
-    Ok(())
+    let alloc = rt.alloc();
+    let bad = "input: 1 BadToken at 7\n";
+    reports(&rt, alloc, (TABLE, "P P P", SOUND), (0, LINES, ""))?;
+    reports(&rt, alloc, (TABLE, "", SOUND), (0, "", ""))?;
+    reports(&rt, alloc, (CUT, "P", SOUND), (2, "", bad))?;
+    let line = "schedule: 1 BadStep at 0\n";
+    reports(&rt, alloc, (TABLE, " P", SOUND), (2, "", line))?;
+    let line = "schedule: 1 BadStep at 2\n";
+    reports(&rt, alloc, (TABLE, "P ", SOUND), (2, "", line))?;
+    let line = "replay: 1 NotEnabled at step 2\n";
+    reports(&rt, alloc, (TABLE, "P P.9", SOUND), (2, FIRST_LINE, line))
+}
+
+// A read fails; a write fails; only the flush at the end fails, after a whole replay and after one that stopped; and
+// nothing is flushed where nothing was written.
+#[test]
+fn reports_a_run_whose_streams_fail(rt: HostRuntime) -> Result<(), Fail> {
+    let alloc = rt.alloc();
+    let line = "input: read failed\n";
+    reports(&rt, alloc, (TABLE, "P P P", NO_READ), (2, "", line))?;
+    let line = "output failed\n";
+    let one_line = (u64::MAX, FIRST_LINE.len(), u64::MAX);
+    reports(
+        &rt,
+        alloc,
+        (TABLE, "P P P", one_line),
+        (4, FIRST_LINE, line),
+    )?;
+    reports(&rt, alloc, (TABLE, "P P P", NO_FLUSH), (4, LINES, line))?;
+    reports(
+        &rt,
+        alloc,
+        (TABLE, "P P.9", NO_FLUSH),
+        (4, FIRST_LINE, line),
+    )?;
+    let line = "input: 1 BadToken at 7\n";
+    reports(&rt, alloc, (CUT, "P", NO_FLUSH), (2, "", line))
 }

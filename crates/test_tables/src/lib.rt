@@ -5,6 +5,8 @@
 #[cfg(test)]
 mod calls;
 #[cfg(test)]
+mod lines;
+#[cfg(test)]
 mod owners;
 #[cfg(test)]
 mod refusals;

@@ -1,6 +1,7 @@
 // A few processes and their tables: each line is a call of one of them, and what it results in is compared as text.
 ghost use Rattle.std.specs.Prelude.{◌≡◌, false};
 
+use crate::lines::{Line, lines_of};
 use crate::world::happen_in_a_world;
 use core_eval::{Answer, Machine, Request, start};
 use core_reader::{Module, ReadFault, read_module};
@@ -17,11 +18,6 @@ use term_core::{
 };
 use test_support::same;
 use world_model::rule::Rule;
-
-/// A line: the name that its answer gets, if any; the number of the process that calls, where 0 is the first; the name
-/// of the call; its arguments; and what it results in. `pid` is answered by the process of a number, `ref` by a
-/// reference of nothing, and `ends` ends the process.
-pub(crate) type Line = (&'static str, u64, &'static str, &'static str, &'static str);
 
 // What a call resulted in: its answer, with what is sent to other processes, or its rule, with the owner that is
 // reported.
@@ -223,10 +219,9 @@ fn push_carrier(
 
 // The line as a part of the body of `main/0`.
 fn push_line(text: &mut String, line: &Line) -> Result<(), AllocError> {
-    let (name, who, call, arguments, _want) = line;
-    push_front(text, name)?;
-    push_carrier(text, *who, call, arguments)?;
-    push_back(text, name)
+    push_front(text, line.name)?;
+    push_carrier(text, line.who, line.call, line.arguments)?;
+    push_back(text, line.name)
 }
 
 // A module with the body of `main/0`: a call for each line.
@@ -346,9 +341,9 @@ fn happens(
 fn lines_happen(alloc: Global, machine: &mut Machine, lines: &[Line]) -> Result<(), Fail> {
     let mut scene = Scene::new(alloc)?;
     let mut request: u64 = 0;
-    for (_name, _who, _call, _arguments, want) in lines {
+    for line in lines {
         request = request.saturating_add(1);
-        happens(alloc, &mut scene, machine, request, want)?;
+        happens(alloc, &mut scene, machine, request, line.want)?;
     }
     Ok(())
 }
@@ -379,10 +374,19 @@ fn lines_happen_in(alloc: Global, program: &Module, lines: &[Line]) -> Result<()
     lines_happen(alloc, &mut machine, lines)
 }
 
-/// Checks that each of these lines results in what it says, one after the other, with four processes and no table at
-/// first: by calls of the tables alone, and then in a world, where each step is planned and done as it was planned.
-pub(crate) fn happen(alloc: Global, lines: &[Line]) -> Result<(), Fail> {
+// Checks that each of these lines results in what it says, one after the other, with four processes and no table at first:
+// by calls of the tables alone, and then in a world, where each step is planned and done as it was planned.
+fn scene_happens(alloc: Global, lines: &[Line]) -> Result<(), Fail> {
     let program = program_of(alloc, lines)?;
     lines_happen_in(alloc, &program, lines)?;
     happen_in_a_world(alloc, lines)
+}
+
+/// Checks that each line of each of these scenes results in what it says.
+pub(crate) fn happen(alloc: Global, scenes: &str) -> Result<(), Fail> {
+    for scene in scenes.split("\n\n") {
+        let lines = lines_of(alloc, scene)?;
+        scene_happens(alloc, lines.as_slice())?;
+    }
+    Ok(())
 }

@@ -2,7 +2,8 @@
 // is planned and then done as it was planned.
 ghost use Rattle.std.specs.Prelude.{◌≡◌, false};
 
-use crate::scene::{Line, pid_of};
+use crate::lines::Line;
+use crate::scene::pid_of;
 use core_reader::{Module, ReadFault, read_module};
 use proc_signals::Signal;
 use std::alloc::{AllocError, Global};
@@ -19,9 +20,9 @@ const DRIVER: u64 = 4;
 // What a process does for a line: it receives what was answered so far, and sends what its call answers. A process that
 // is to end receives and does nothing else.
 fn push_task(text: &mut String, number: u64, line: &Line, names: &str) -> Result<(), AllocError> {
-    let (_name, _who, call, arguments, _want) = line;
+    let (call, arguments) = (line.call, line.arguments);
     write!(text, "receive <{{{number},D{names}}}> when 'true' -> ")?;
-    match *call {
+    match call {
         "ends" => Ok(()),
         "ref" => write!(
             text,
@@ -44,7 +45,7 @@ fn push_name(names: &mut String, name: &str) -> Result<(), AllocError> {
 
 // Whether a line is one that the process of this number plays: which process has a number is known without one.
 fn is_of(line: &Line, who: u64) -> bool {
-    line.1 == who && line.2 != "pid"
+    line.who == who && line.call != "pid"
 }
 
 // What the process of this number does, one line after the other.
@@ -61,7 +62,7 @@ fn push_tasks(
         if is_of(line, who) {
             push_task(text, number, line, names.as_str())?;
         }
-        push_name(&mut names, line.0)?;
+        push_name(&mut names, line.name)?;
     }
     text.push_str("'ok'")
 }
@@ -84,15 +85,16 @@ fn push_body(alloc: Global, text: &mut String, who: u64, lines: &[Line]) -> Resu
 
 // What a line asks for: that the process makes its call, with all that was answered so far, and answers.
 fn push_order(text: &mut String, number: u64, line: &Line, names: &str) -> Result<(), AllocError> {
-    let (name, who, call, arguments, _want) = line;
-    if *call == "pid" {
+    let (name, who) = (line.name, line.who);
+    if line.call == "pid" {
+        let arguments = line.arguments;
         return write!(text, "let <{name}> = P{arguments} in ");
     }
     write!(
         text,
         "do call 'erlang':'!'(P{who},{{{number},call 'erlang':'self'(){names}}}) "
     )?;
-    if *call == "ends" {
+    if line.call == "ends" {
         return Ok(());
     }
     let bound = if name.is_empty() { "A" } else { name };
@@ -109,7 +111,7 @@ fn push_orders(alloc: Global, text: &mut String, lines: &[Line]) -> Result<(), A
     for line in lines {
         number = number.saturating_add(1);
         push_order(text, number, line, names.as_str())?;
-        push_name(&mut names, line.0)?;
+        push_name(&mut names, line.name)?;
     }
     text.push_str("'ok'")
 }
@@ -274,13 +276,12 @@ fn line_happens(
     line: &Line,
     want: &str,
 ) -> Result<(), Fail> {
-    let (_name, who, call, _arguments, _want) = line;
-    asks(alloc, records, *who)?;
-    comes_to(alloc, records, *who, want)?;
-    if *call == "ends" {
+    asks(alloc, records, line.who)?;
+    comes_to(alloc, records, line.who, want)?;
+    if line.call == "ends" {
         return Ok(());
     }
-    answers(alloc, records, *who)
+    answers(alloc, records, line.who)
 }
 
 // The number of the first process's turn that makes the call of its next line, after so many lines of its own: it took
@@ -302,12 +303,12 @@ fn wanted(alloc: Global, own: u64, want: &str) -> Result<String, AllocError> {
 fn lines_happen(alloc: Global, records: &mut Records<'_>, lines: &[Line]) -> Result<(), Fail> {
     let mut own: u64 = 0;
     for line in lines {
-        if line.2 == "pid" {
+        if line.call == "pid" {
             continue;
         }
-        let want = wanted(alloc, own, line.4)?;
+        let want = wanted(alloc, own, line.want)?;
         line_happens(alloc, records, line, want.as_str())?;
-        if line.1 == 0 {
+        if line.who == 0 {
             own = own.saturating_add(1);
         }
     }

@@ -1,4 +1,5 @@
 // Which rows of its table each call writes.
+use crate::lines::below_comment;
 use core_tree::CallKind;
 use ets_answers::{Touched, rows_written};
 use ets_calls::TableRequest;
@@ -14,51 +15,50 @@ use world_model::table::{Kind, Protection};
 // The objects of the table, whose keys come second.
 const OBJECTS: &str = "[{10,1},{20,2}]";
 
-// A line: the name of a call, its arguments after the table, and the keys whose rows it writes, or none, or all.
-type Line = (&'static str, &'static str, &'static str);
+// Blocks of lines, each below a comment: the name of a call, its arguments after the table as a tuple, and the keys whose
+// rows it writes, or none, or all.
+const CALLS: &str = "\
+% objects are put in
+insert {{30,3}} -> [3]
+insert {{30,1}} -> [1]
+insert {[{30,3},{40,1},{50,'a',5}]} -> [3,1,'a']
+insert {[]} -> []
+insert_new {{30,3}} -> [3]
+insert_new {[{40,4},{30,3}]} -> [4,3]
+insert_new {[]} -> []
 
-const PUT_IN: [Line; 10] = [
-    ("insert", "{{30,3}}", "[3]"),
-    ("insert", "{{30,1}}", "[1]"),
-    ("insert", "{[{30,3},{40,1},{50,'a',5}]}", "[3,1,'a']"),
-    ("insert", "{[]}", "[]"),
-    ("insert_new", "{{30,3}}", "[3]"),
-    ("insert_new", "{[{40,4},{30,3}]}", "[4,3]"),
-    ("insert_new", "{[]}", "[]"),
-    // These two answer false.
-    ("insert_new", "{{30,1}}", "none"),
-    ("insert_new", "{[{30,3},{40,2}]}", "none"),
-    // A part of an object is 10, but no key.
-    ("insert_new", "{{1,10}}", "[10]"),
-];
+% insert_new answers false
+insert_new {{30,1}} -> none
+insert_new {[{30,3},{40,2}]} -> none
 
-const TAKEN_OUT: [Line; 10] = [
-    ("delete", "{1}", "[1]"),
-    ("delete", "{9}", "[9]"),
-    ("delete", "{}", "all"),
-    ("delete_object", "{{10,1}}", "[1]"),
-    ("delete_object", "{{7,9}}", "[9]"),
-    ("delete_all_objects", "{}", "all"),
-    ("take", "{2}", "[2]"),
-    ("take", "{9}", "[9]"),
-    ("update_counter", "{1,{1,5}}", "[1]"),
-    ("update_element", "{2,{1,'new'}}", "[2]"),
-];
+% a part of an object is 10, but no key
+insert_new {{1,10}} -> [10]
 
-const NOT_WRITTEN: [Line; 12] = [
-    ("lookup", "{1}", "none"),
-    ("member", "{1}", "none"),
-    ("lookup_element", "{1,1}", "none"),
-    ("first", "{}", "none"),
-    ("last", "{}", "none"),
-    ("next", "{1}", "none"),
-    ("prev", "{1}", "none"),
-    ("tab2list", "{}", "none"),
-    ("info", "{'size'}", "none"),
-    ("give_away", "{P.1,'data'}", "none"),
-    ("setopts", "{{'heir','none'}}", "none"),
-    ("setopts", "{{'heir',P.1,'data'}}", "none"),
-];
+% objects are taken out or changed
+delete {1} -> [1]
+delete {9} -> [9]
+delete {} -> all
+delete_object {{10,1}} -> [1]
+delete_object {{7,9}} -> [9]
+delete_all_objects {} -> all
+take {2} -> [2]
+take {9} -> [9]
+update_counter {1,{1,5}} -> [1]
+update_element {2,{1,'new'}} -> [2]
+
+% nothing is written
+lookup {1} -> none
+member {1} -> none
+lookup_element {1,1} -> none
+first {} -> none
+last {} -> none
+next {1} -> none
+prev {1} -> none
+tab2list {} -> none
+info {'size'} -> none
+give_away {P.1,'data'} -> none
+setopts {{'heir','none'}} -> none
+setopts {{'heir',P.1,'data'}} -> none";
 
 // The table: a set that the first process owns.
 fn table(alloc: Global) -> Result<Table, Fail> {
@@ -125,20 +125,34 @@ fn written(alloc: Global, name: &str, arguments: &str) -> Result<Vec<u8>, Fail> 
     }
 }
 
-// Checks that each call writes what its line says.
-fn write_so(alloc: Global, lines: &[Line]) -> Result<(), Fail> {
-    for (name, arguments, wanted) in lines {
-        same(
-            written(alloc, name, arguments)?.as_slice(),
-            wanted.as_bytes(),
-        )?;
+// The name of the call of a line, its arguments, and what it writes.
+fn parts_of(line: &str) -> Option<(&str, &str, &str)> {
+    let (call, wanted) = line.split_once(" -> ")?;
+    let (name, arguments) = call.split_once(' ')?;
+    Some((name, arguments, wanted))
+}
+
+// Checks that the call of a line writes what the line says.
+fn writes_so(alloc: Global, line: &str) -> Result<(), Fail> {
+    let Some((name, arguments, wanted)) = parts_of(line) else {
+        return Err(Fail::from("a line says what its call writes"));
+    };
+    let text = written(alloc, name, arguments)?;
+    same(text.as_slice(), wanted.as_bytes())
+}
+
+// Checks that each call of a block writes what its line says.
+fn write_so(alloc: Global, block: &str) -> Result<(), Fail> {
+    for line in below_comment(block)?.split('\n') {
+        writes_so(alloc, line)?;
     }
     Ok(())
 }
 
 #[test]
 fn calls_write_rows(rt: HostRuntime) -> Result<(), Fail> {
-    write_so(rt.alloc(), &PUT_IN)?;
-    write_so(rt.alloc(), &TAKEN_OUT)?;
-    write_so(rt.alloc(), &NOT_WRITTEN)
+    for block in CALLS.split("\n\n") {
+        write_so(rt.alloc(), block)?;
+    }
+    Ok(())
 }

@@ -106,9 +106,8 @@ fn heads(alloc: Global) -> Result<Vec<Term>, AllocError> {
 #[test]
 fn a_million_heads_make_a_list(rt: HostRuntime) -> Result<(), Fail> {
     let list = list_onto(rt.alloc(), heads(rt.alloc())?, Term::Nil)?;
-    assert_eq!(rt; cells(&list), MILLION);
-    assert!(rt; list == sevens(rt.alloc(), Term::Nil)?);
-    Ok(())
+    holds(cells(&list) == MILLION, "a list has a million cells")?;
+    holds(list == sevens(rt.alloc(), Term::Nil)?, "all are sevens")
 }
 
 // A thousand copies, which are dropped.

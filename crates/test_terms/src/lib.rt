@@ -19,3 +19,5 @@ mod term_reading;
 mod term_words;
 #[cfg(test)]
 mod terms;
+#[cfg(test)]
+mod tuple_parts;

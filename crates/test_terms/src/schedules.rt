@@ -1,4 +1,5 @@
 // Texts that are schedules, and the first bad step of those that are not.
+use crate::tuple_parts::place_and_text;
 use std::alloc::{AllocError, Global};
 use std::fmt::Write;
 use std::test::Fail;
@@ -38,24 +39,35 @@ fn described(alloc: Global, steps: &[Step]) -> Result<String, AllocError> {
 }
 
 // Texts of schedules, and their steps in other words.
-const SCHEDULES: [(&[u8], &str); 9] = [
-    (b"", ""),
-    (b"P", "turn;"),
-    (b"P P.1", "turn;turn 1;"),
-    (b"P.2.1", "turn 2 1;"),
-    (b"P>P.1 P.1>P", "from to 1;from 1 to;"),
-    (b"P>P.1", "from to 1;"),
-    (b"P P.2 P>P.1", "turn;turn 2;from to 1;"),
-    (b"P.10>P.9.10", "from 10 to 9 10;"),
-    (b"P.18446744073709551615", "turn 18446744073709551615;"),
-];
+const SCHEDULES: &str = "\
+=
+P=turn;
+P P.1=turn;turn 1;
+P.2.1=turn 2 1;
+P>P.1 P.1>P=from to 1;from 1 to;
+P>P.1=from to 1;
+P P.2 P>P.1=turn;turn 2;from to 1;
+P.10>P.9.10=from 10 to 9 10;
+P.18446744073709551615=turn 18446744073709551615;
+";
+
+// The text of a schedule, and its steps in other words.
+fn split_row(row: &str) -> Result<(&str, &str), Fail> {
+    Ok(row.split_once('=').ok_or("a row has two parts")?)
+}
+
+// Checks that the schedule of a row has the steps of the row.
+fn reads(alloc: Global, row: &str) -> Result<(), Fail> {
+    let (text, wanted) = split_row(row)?;
+    let steps = read_schedule(alloc, text.as_bytes())?;
+    let words = described(alloc, &steps)?;
+    same(words.as_bytes(), wanted.as_bytes())
+}
 
 #[test]
 fn reads_schedules(rt: HostRuntime) -> Result<(), Fail> {
-    for (text, wanted) in SCHEDULES {
-        let steps = read_schedule(rt.alloc(), text)?;
-        let words = described(rt.alloc(), &steps)?;
-        assert_eq!(rt; words.as_str(), wanted);
+    for row in SCHEDULES.lines() {
+        reads(rt.alloc(), row)?;
     }
     Ok(())
 }
@@ -69,9 +81,10 @@ fn writes(alloc: Global, steps: &[Step], text: &[u8]) -> Result<(), Fail> {
 
 #[test]
 fn writes_schedules(rt: HostRuntime) -> Result<(), Fail> {
-    for (text, _) in SCHEDULES {
-        let steps = read_schedule(rt.alloc(), text)?;
-        writes(rt.alloc(), &steps, text)?;
+    for row in SCHEDULES.lines() {
+        let (text, _) = split_row(row)?;
+        let steps = read_schedule(rt.alloc(), text.as_bytes())?;
+        writes(rt.alloc(), &steps, text.as_bytes())?;
     }
     Ok(())
 }
@@ -90,15 +103,15 @@ fn copies(alloc: Global, step: &Step, text: &[u8]) -> Result<(), Fail> {
     writes_step(alloc, &copied, text)
 }
 
-// Schedules of one step.
-const STEPS: [&[u8]; 4] = [b"P", b"P.2", b"P>P.1", b"P.2>P.1"];
+// Schedules of one step, a blank between them.
+const STEPS: &str = "P P.2 P>P.1 P.2>P.1";
 
 #[test]
 fn copies_and_writes_steps(rt: HostRuntime) -> Result<(), Fail> {
-    for text in STEPS {
-        let steps = read_schedule(rt.alloc(), text)?;
+    for text in STEPS.split(' ') {
+        let steps = read_schedule(rt.alloc(), text.as_bytes())?;
         let step = steps.first().ok_or("a schedule has a step")?;
-        copies(rt.alloc(), step, text)?;
+        copies(rt.alloc(), step, text.as_bytes())?;
     }
     Ok(())
 }
@@ -107,49 +120,48 @@ fn copies_and_writes_steps(rt: HostRuntime) -> Result<(), Fail> {
 fn reads_a_schedule_of_100000_steps(rt: HostRuntime) -> Result<(), Fail> {
     let text = nested(rt.alloc(), "", "P.7 ", 99_999, "P", "")?;
     let steps = read_schedule(rt.alloc(), text.as_bytes())?;
-    assert_eq!(rt; steps.len(), 100_000);
+    holds(steps.len() == 100_000, "there are 100000 steps")?;
     writes(rt.alloc(), &steps, text.as_bytes())
 }
 
-// Texts of no schedule, and the place of the first bad step.
-const BAD_STEPS: [(&[u8], usize); 16] = [
-    (b"P  P", 2),
-    (b"P.0", 0),
-    (b"P.18446744073709551616", 0),
-    (b"P ", 2),
-    (b" P", 0),
-    (b" ", 0),
-    (b"P>P.1 x", 6),
-    (b"P x y", 2),
-    (b"P.01", 0),
-    (b"P.", 0),
-    (b"P.1.", 0),
-    (b"P.+1", 0),
-    (b"P>", 0),
-    (b">P", 0),
-    (b"P>P>P", 0),
-    (b"P\tP", 0),
-];
+// The place of the first bad step, and a text of no schedule.
+const BAD_STEPS: &str = "\
+2 `P  P`
+0 `P.0`
+0 `P.18446744073709551616`
+2 `P `
+0 ` P`
+0 ` `
+6 `P>P.1 x`
+2 `P x y`
+0 `P.01`
+0 `P.`
+0 `P.1.`
+0 `P.+1`
+0 `P>`
+0 `>P`
+0 `P>P>P`
+0 `P\tP`
+";
 
 #[test]
-fn names_the_first_bad_step(rt: HostRuntime) {
-    for (text, at) in BAD_STEPS {
-        let fault = read_schedule(rt.alloc(), text).err();
-        assert_eq!(rt; fault, Some(ScheduleFault::BadStep(at)));
+fn names_the_first_bad_step(rt: HostRuntime) -> Result<(), Fail> {
+    for row in BAD_STEPS.lines() {
+        let (at, text) = place_and_text(row).ok_or("a row has two parts")?;
+        let fault = read_schedule(rt.alloc(), text.as_bytes()).err();
+        holds(fault == Some(ScheduleFault::BadStep(at)), row)?;
     }
+    Ok(())
 }
 
-// The faults, and their texts.
-const FAULTS: [(ScheduleFault, &str); 2] = [
-    (ScheduleFault::BadStep(2), "1 BadStep at 2"),
-    (ScheduleFault::Memory, "2 Memory"),
-];
+// Checks that a fault is written so.
+fn writes_fault(alloc: Global, fault: ScheduleFault, want: &str) -> Result<(), Fail> {
+    let text = format!(in alloc; "{fault}")?;
+    same(text.as_bytes(), want.as_bytes())
+}
 
 #[test]
 fn writes_faults(rt: HostRuntime) -> Result<(), Fail> {
-    for (fault, want) in FAULTS {
-        let text = format!(in rt.alloc(); "{fault}")?;
-        assert_eq!(rt; text.as_str(), want);
-    }
-    Ok(())
+    writes_fault(rt.alloc(), ScheduleFault::BadStep(2), "1 BadStep at 2")?;
+    writes_fault(rt.alloc(), ScheduleFault::Memory, "2 Memory")
 }

@@ -1,11 +1,12 @@
 // What copies share, and the sizes that cells and tuples know.
-use crate::term_words::Word::{Int, List, Onto, Tuple};
-use crate::term_words::{Word, all_of, term, terms};
 use crate::terms::prints;
+use crate::tuple_parts::parts_of;
 use std::alloc::{AllocError, Global};
 use std::sync::Arc;
 use std::test::Fail;
 use term_core::{Pair, Term, Terms, list_onto};
+use term_reader::{TermFault, read_term};
+use test_support::holds;
 
 // Checks that the term is printed so, and drops it.
 fn prints_at_last(alloc: Global, term: Term, text: &[u8]) -> Result<(), Fail> {
@@ -17,11 +18,9 @@ fn before(alloc: Global, head: i64, tail: &Term) -> Result<Term, AllocError> {
     Term::cell(alloc, Term::Int(head), tail.copy()?)
 }
 
-const SEVENS: [Word; 3] = [Int(7), Int(7), List(2)];
-
 // Lists of 1 and of 2 with one tail, which is dropped.
-fn two_lists(alloc: Global) -> Result<(Term, Term), AllocError> {
-    let tail = term(alloc, &SEVENS)?;
+fn two_lists(alloc: Global) -> Result<(Term, Term), TermFault> {
+    let tail = read_term(alloc, b"[7,7]")?;
     let one = before(alloc, 1, &tail)?;
     let two = before(alloc, 2, &tail)?;
     Ok((one, two))
@@ -34,8 +33,6 @@ fn a_tail_outlives_the_list_before_it(rt: HostRuntime) -> Result<(), Fail> {
     prints_at_last(rt.alloc(), two, b"[2,7,7]")
 }
 
-const PAIR: [Word; 3] = [Int(1), List(0), Tuple(2)];
-
 // A cell of two copies.
 fn twice(alloc: Global, term: &Term) -> Result<Term, AllocError> {
     let head = term.copy()?;
@@ -43,9 +40,9 @@ fn twice(alloc: Global, term: &Term) -> Result<Term, AllocError> {
 }
 
 // A cell of two copies of a tuple, which is dropped.
-fn cell_of_tuples(alloc: Global) -> Result<Term, AllocError> {
-    let tuple = term(alloc, &PAIR)?;
-    twice(alloc, &tuple)
+fn cell_of_tuples(alloc: Global) -> Result<Term, TermFault> {
+    let tuple = read_term(alloc, b"{1,[]}")?;
+    Ok(twice(alloc, &tuple)?)
 }
 
 #[test]
@@ -71,85 +68,70 @@ fn is_held_alone(term: Term) -> bool {
     }
 }
 
-const THREE_TUPLES: [Word; 6] = [Int(1), Tuple(1), Int(2), Tuple(1), Int(3), Tuple(1)];
-
 // The heads of a list, and what is in the place of its end, are held by the test alone once the list is dropped.
 #[test]
 fn a_dropped_list_drops_its_heads(rt: HostRuntime) -> Result<(), Fail> {
-    let held = terms(rt.alloc(), &THREE_TUPLES)?;
+    let held = parts_of(rt.alloc(), "{{1},{2},{3}}")?;
     drop(list_over(rt.alloc(), &held)?);
     for term in held.into_vec() {
-        assert!(rt; is_held_alone(term));
+        holds(is_held_alone(term), "a head is held by the test alone")?;
     }
     Ok(())
 }
 
-// Terms, and how many nodes they have together.
-const SIZES: [(&[Word], u64); 8] = [
-    (&[], 0),
-    (&[Int(1), List(0)], 2),
-    (&[Int(1), List(0), Tuple(2)], 3),
-    (&[Int(1), List(0), Int(1), List(0), Tuple(2)], 5),
-    // `[{1,[],{1,[]}}|9]`
-    (
-        &[
-            Int(1),
-            List(0),
-            Int(1),
-            List(0),
-            Tuple(2),
-            Tuple(3),
-            Int(9),
-            Onto(1),
-        ],
-        8,
-    ),
-    // `[[7,7],{}|[7,7]]`
-    (
-        &[
-            Int(7),
-            Int(7),
-            List(2),
-            Tuple(0),
-            Int(7),
-            Int(7),
-            List(2),
-            Onto(2),
-        ],
-        13,
-    ),
-    (&[Int(7), List(1), Int(7), List(1)], 6),
-    (&[Int(7), List(1), Int(7), List(1), Tuple(2)], 7),
-];
+// How many nodes terms have together, and a tuple of them.
+const SIZES: &str = "\
+0 {}
+2 {1,[]}
+3 {{1,[]}}
+5 {1,[],{1,[]}}
+8 {[{1,[],{1,[]}}|9]}
+13 {[[7,7],{},7,7]}
+6 {[7],[7]}
+7 {{[7],[7]}}
+";
 
 // The terms, put together one by one.
-fn pushed(alloc: Global, words: &[Word]) -> Result<Terms, AllocError> {
+fn pushed(alloc: Global, terms: Terms) -> Result<Terms, AllocError> {
     let mut made = Terms::new(alloc);
-    for term in all_of(alloc, words)? {
+    for term in terms.into_vec() {
         made.push(term)?;
     }
     Ok(made)
 }
 
+// Checks that terms have so many nodes, put together at once and one by one.
+fn have_size(alloc: Global, terms: Terms, nodes: u64) -> Result<(), Fail> {
+    let made = Terms::from_vec(terms.into_vec());
+    let is_known = made.nodes() == nodes;
+    let is_known_of_each = pushed(alloc, made)?.nodes() == nodes;
+    holds(is_known && is_known_of_each, "terms know their size")
+}
+
 #[test]
 fn terms_know_their_sizes(rt: HostRuntime) -> Result<(), Fail> {
-    for (words, nodes) in SIZES {
-        assert_eq!(rt; terms(rt.alloc(), words)?.nodes(), nodes);
-        assert_eq!(rt; pushed(rt.alloc(), words)?.nodes(), nodes);
+    for row in SIZES.lines() {
+        let (nodes, text) = row.split_once(' ').ok_or("a row has two parts")?;
+        have_size(rt.alloc(), parts_of(rt.alloc(), text)?, nodes.parse()?)?;
     }
     Ok(())
 }
 
+// Checks that 1 and then nil are taken out from the end.
+fn are_taken_out(items: &mut Vec<Term>) -> Result<(), Fail> {
+    holds(items.pop() == Some(Term::Nil), "nil is the last")?;
+    holds(items.pop() == Some(Term::Int(1)), "1 is before it")
+}
+
 #[test]
 fn parts_are_read_and_taken_out(rt: HostRuntime) -> Result<(), Fail> {
-    let made = terms(rt.alloc(), &PAIR[..2])?;
-    assert_eq!(rt; made.len(), 2);
-    assert!(rt; made.as_slice().first() == Some(&Term::Int(1)));
+    let made = parts_of(rt.alloc(), "{1,[]}")?;
+    holds(made.len() == 2, "there are two parts")?;
+    let is_one = made.as_slice().first() == Some(&Term::Int(1));
+    holds(is_one, "1 is the first")?;
     let mut items = made.into_vec();
-    assert!(rt; items.pop() == Some(Term::Nil));
-    assert!(rt; items.pop() == Some(Term::Int(1)));
-    assert_eq!(rt; Terms::from_vec(items).len(), 0);
-    Ok(())
+    are_taken_out(&mut items)?;
+    holds(Terms::from_vec(items).len() == 0, "no part is left")
 }
 
 #[test]

@@ -1,61 +1,22 @@
 // The order on examples that were put in order by hand.
-use crate::term_words::Word::{Int, List, Name, Onto, Pid, Ref, Tuple};
-use crate::term_words::{Word, all_of, terms};
+use crate::tuple_parts::parts_of;
 use std::alloc::{AllocError, Global};
 use std::cmp::Ordering;
 use std::hash::{DefaultHasher, Hash, Hasher};
 use std::test::Fail;
 use term_core::{Pair, ScheduleFault, Step, Term, Terms, compare_schedules, read_schedule};
+use test_support::holds;
 
-/// Terms in ascending order.
-const ASCENDING: [Word; 42] = [
-    // integers by value, and then atoms by their characters
-    Int(i64::MIN),
-    Int(-10),
-    Int(-9),
-    Int(0),
-    Int(9),
-    Int(i64::MAX),
-    Name(""),
-    Name("A"),
-    Name("a"),
-    Name("ab"),
-    Name("b"),
-    Name("é"),
-    // references by pid and then by number, and then pids by their numbers
-    Ref(&[], 2),
-    Ref(&[], 10),
-    Ref(&[1], 1),
-    Pid(&[]),
-    Pid(&[1]),
-    Pid(&[1, 1]),
-    Pid(&[2]),
-    Pid(&[10]),
-    // tuples by size and then by their parts: `{}`, `{9}`, `{1,1}` and `{1,2}`
-    Tuple(0),
-    Int(9),
-    Tuple(1),
-    Int(1),
-    Int(1),
-    Tuple(2),
-    Int(1),
-    Int(2),
-    Tuple(2),
-    // nil, and then lists by head and then by tail: `[1|5]`, `[1]`, `[1,0]`, `[2]` and `[[]]`
-    List(0),
-    Int(1),
-    Int(5),
-    Onto(1),
-    Int(1),
-    List(1),
-    Int(1),
-    Int(0),
-    List(2),
-    Int(2),
-    List(1),
-    List(0),
-    List(1),
-];
+/// Terms in ascending order, a line for each kind: integers by value, atoms by their characters, references by pid and then
+/// by number, pids by their numbers, tuples by size and then by their parts, and nil and then lists by head and then by tail.
+const ASCENDING: &str = "\
+{-9223372036854775808,-10,-9,0,9,9223372036854775807}
+{'','A','a','ab','b','é'}
+{#P.2,#P.10,#P.1.1}
+{P,P.1,P.1.1,P.2,P.10}
+{{},{9},{1,1},{1,2}}
+{[],[1|5],[1],[1,0],[2],[[]]}
+";
 
 fn hash_of<T: Hash>(value: &T) -> u64 {
     let mut state = DefaultHasher::new();
@@ -93,38 +54,57 @@ fn are_ascending<T: Ord + Hash>(one: &[T], two: &[T]) -> bool {
     true
 }
 
+// Checks that the order of the values is that of their places, where the two slices hold the same values.
+fn ascend<T: Ord + Hash>(one: &[T], two: &[T]) -> Result<(), Fail> {
+    holds(are_ascending(one, two), "each value has its place")
+}
+
+// The parts of the tuple in each line.
+fn all_parts(alloc: Global, lines: &str) -> Result<Vec<Terms>, Fail> {
+    let mut all = Vec::new(alloc);
+    for line in lines.lines() {
+        all.push(parts_of(alloc, line)?)?;
+    }
+    Ok(all)
+}
+
+fn push_terms(all: &mut Vec<Term>, terms: Terms) -> Result<(), AllocError> {
+    for term in terms.into_vec() {
+        all.push(term)?;
+    }
+    Ok(())
+}
+
+// The terms of all lines, one after another.
+fn all_terms(alloc: Global, lines: &str) -> Result<Vec<Term>, Fail> {
+    let mut all = Vec::new(alloc);
+    for line in lines.lines() {
+        push_terms(&mut all, parts_of(alloc, line)?)?;
+    }
+    Ok(all)
+}
+
 #[test]
 fn terms_stand_in_the_written_order(rt: HostRuntime) -> Result<(), Fail> {
-    let one = all_of(rt.alloc(), &ASCENDING)?;
-    let two = all_of(rt.alloc(), &ASCENDING)?;
-    assert_eq!(rt; one.len(), 30);
-    assert!(rt; are_ascending(&one, &two));
-    Ok(())
+    let one = all_terms(rt.alloc(), ASCENDING)?;
+    let two = all_terms(rt.alloc(), ASCENDING)?;
+    holds(one.len() == 30, "there are 30 terms")?;
+    ascend(&one, &two)
 }
 
 // Parts of tuples in ascending order.
-const PARTS: [&[Word]; 5] = [
-    &[],
-    &[Int(1)],
-    &[Int(1), Int(1)],
-    &[Int(1), Int(2), Int(0)],
-    &[Int(2)],
-];
-
-fn parts(alloc: Global) -> Result<Vec<Terms>, AllocError> {
-    let mut made = Vec::new(alloc);
-    for words in PARTS {
-        let terms = terms(alloc, words)?;
-        made.push(terms)?;
-    }
-    Ok(made)
-}
+const PARTS: &str = "\
+{}
+{1}
+{1,1}
+{1,2,0}
+{2}
+";
 
 #[test]
 fn lists_of_terms_go_item_by_item(rt: HostRuntime) -> Result<(), Fail> {
-    let lists = parts(rt.alloc())?;
-    assert!(rt; are_ascending(&lists, &lists));
-    Ok(())
+    let lists = all_parts(rt.alloc(), PARTS)?;
+    ascend(&lists, &lists)
 }
 
 // Heads and tails of cells in ascending order.
@@ -141,8 +121,7 @@ fn cells(alloc: Global) -> Result<Vec<Pair>, AllocError> {
 #[test]
 fn cells_go_by_head_and_then_by_tail(rt: HostRuntime) -> Result<(), Fail> {
     let pairs = cells(rt.alloc())?;
-    assert!(rt; are_ascending(&pairs, &pairs));
-    Ok(())
+    ascend(&pairs, &pairs)
 }
 
 // Steps in ascending order, as a schedule.
@@ -152,20 +131,26 @@ const STEPS: &[u8] = b"P P.1 P.9 P.10 P>P.1 P>P.2 P.1>P P.1>P.2";
 fn turns_come_before_deliveries(rt: HostRuntime) -> Result<(), Fail> {
     let one = read_schedule(rt.alloc(), STEPS)?;
     let two = read_schedule(rt.alloc(), STEPS)?;
-    assert_eq!(rt; one.len(), 8);
-    assert!(rt; are_ascending(&one, &two));
-    Ok(())
+    holds(one.len() == 8, "there are 8 steps")?;
+    ascend(&one, &two)
 }
 
-// Schedules in ascending order.
-const SCHEDULES: [&[u8]; 9] = [
-    b"", b"P", b"P.9", b"P>P.1", b"P P", b"P P.9", b"P P>P.1", b"P.9 P", b"P P P",
-];
+// Schedules in ascending order, the first without a step.
+const SCHEDULES: &str = "
+P
+P.9
+P>P.1
+P P
+P P.9
+P P>P.1
+P.9 P
+P P P
+";
 
 // Whether this schedule, at this place of the table, has the order of its place to each in the table.
 fn is_ordered(alloc: Global, schedule: &[Step], i: usize) -> Result<bool, ScheduleFault> {
-    for (j, text) in SCHEDULES.iter().enumerate() {
-        let other = read_schedule(alloc, text)?;
+    for (j, text) in SCHEDULES.lines().enumerate() {
+        let other = read_schedule(alloc, text.as_bytes())?;
         if compare_schedules(schedule, &other) != i.cmp(&j) {
             return Ok(false);
         }
@@ -175,9 +160,9 @@ fn is_ordered(alloc: Global, schedule: &[Step], i: usize) -> Result<bool, Schedu
 
 #[test]
 fn schedules_go_by_length_first(rt: HostRuntime) -> Result<(), Fail> {
-    for (i, text) in SCHEDULES.iter().enumerate() {
-        let schedule = read_schedule(rt.alloc(), text)?;
-        assert!(rt; is_ordered(rt.alloc(), &schedule, i)?, "at {i}");
+    for (i, text) in SCHEDULES.lines().enumerate() {
+        let schedule = read_schedule(rt.alloc(), text.as_bytes())?;
+        holds(is_ordered(rt.alloc(), &schedule, i)?, text)?;
     }
     Ok(())
 }

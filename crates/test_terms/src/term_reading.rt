@@ -1,86 +1,97 @@
 // Terms as they are read from their texts, and the places of what is no term.
-use crate::term_words::term;
-use crate::terms::{PRINTED, prints};
+use crate::term_words::{Word, term};
+use crate::terms::{printed, prints};
+use crate::tuple_parts::place_and_text;
 use std::alloc::Global;
+use std::str;
 use std::test::Fail;
 use term_core::write_term;
 use term_reader::{TermFault, read_term};
-use test_support::{MemorySink, nested, same};
+use test_support::{MemorySink, holds, nested, same};
+
+// Checks that the text is read to the term that these words make.
+fn reads(alloc: Global, words: &[Word], text: &[u8]) -> Result<(), Fail> {
+    let read = read_term(alloc, text)?;
+    holds(read == term(alloc, words)?, "a text says a term")?;
+    prints(alloc, &read, text)
+}
 
 #[test]
 fn reads_terms(rt: HostRuntime) -> Result<(), Fail> {
-    for (words, text) in PRINTED {
-        let read = read_term(rt.alloc(), text)?;
-        assert!(rt; read == term(rt.alloc(), words)?);
-        prints(rt.alloc(), &read, text)?;
+    for (words, text) in printed() {
+        reads(rt.alloc(), words, text)?;
     }
     Ok(())
 }
 
-// Texts of no term, and the place of the first mark, number, pid, reference or atom that cannot be there.
-const REFUSED: [(&[u8], usize); 50] = [
-    (b"", 1),
-    (b" ", 1),
-    (b"x", 1),
-    (b"1 ", 1),
-    (b" 1", 1),
-    (b"1,", 2),
-    (b"1]", 2),
-    (b"[]x", 3),
-    // integers
-    (b"01", 1),
-    (b"-0", 1),
-    (b"+1", 1),
-    (b"-", 1),
-    (b"1.5", 1),
-    (b"9223372036854775808", 1),
-    (b"-9223372036854775809", 1),
-    (b"{1,9223372036854775808}", 4),
-    // pids and references
-    (b"P.", 1),
-    (b"P.01", 1),
-    (b"P.18446744073709551616", 1),
-    (b"p", 1),
-    (b"#P", 1),
-    (b"#", 1),
-    (b"#1", 1),
-    (b"[P,#P]", 4),
-    // atoms
-    (b"'", 1),
-    (b"'a", 1),
-    (b"'a'b'", 4),
-    (b"'\\", 1),
-    (b"'\\q'", 1),
-    (b"'\\012'", 1),
-    (b"'\\040'", 1),
-    (b"'\\00'", 1),
-    (b"'\n'", 1),
-    (b"'\x7f'", 1),
-    (b"'\xff'", 1),
-    (b"[1,'\\x']", 4),
-    // tuples and lists
-    (b"{", 2),
-    (b"{,", 2),
-    (b"{1", 3),
-    (b"{1,}", 4),
-    (b"{1]", 3),
-    (b"{1|2}", 3),
-    (b"[1}", 3),
-    (b"[,", 2),
-    (b"[1,]", 4),
-    (b"[1|]", 4),
-    (b"[1|[]]", 4),
-    (b"[1|[2]]", 4),
-    (b"[1|2,3]", 5),
-    (b"[1|2", 5),
-];
+// The place of the first mark, number, pid, reference or atom that cannot be there, and a text of no term: without a
+// term, and then with integers, with pids and references, with atoms, and with tuples and lists.
+const REFUSED: &str = "\
+1 ``
+1 ` `
+1 `x`
+1 `1 `
+1 ` 1`
+2 `1,`
+2 `1]`
+3 `[]x`
+1 `01`
+1 `-0`
+1 `+1`
+1 `-`
+1 `1.5`
+1 `9223372036854775808`
+1 `-9223372036854775809`
+4 `{1,9223372036854775808}`
+1 `P.`
+1 `P.01`
+1 `P.18446744073709551616`
+1 `p`
+1 `#P`
+1 `#`
+1 `#1`
+4 `[P,#P]`
+1 `'`
+1 `'a`
+4 `'a'b'`
+1 `'\\`
+1 `'\\q'`
+1 `'\\012'`
+1 `'\\040'`
+1 `'\\00'`
+1 `'\x7f'`
+4 `[1,'\\x']`
+2 `{`
+2 `{,`
+3 `{1`
+4 `{1,}`
+3 `{1]`
+3 `{1|2}`
+3 `[1}`
+2 `[,`
+4 `[1,]`
+4 `[1|]`
+4 `[1|[]]`
+4 `[1|[2]]`
+5 `[1|2,3]`
+5 `[1|2`
+";
+
+// Checks that a text is no term from this place on.
+fn refuses(alloc: Global, text: &[u8], at: usize) -> Result<(), Fail> {
+    let fault = read_term(alloc, text).err();
+    let is_there = fault == Some(TermFault::BadTerm(at));
+    holds(is_there, str::from_utf8(text).unwrap_or("bytes"))
+}
 
 #[test]
-fn names_the_first_fault(rt: HostRuntime) {
-    for (text, at) in REFUSED {
-        let fault = read_term(rt.alloc(), text).err();
-        assert_eq!(rt; fault, Some(TermFault::BadTerm(at)));
+fn names_the_first_fault(rt: HostRuntime) -> Result<(), Fail> {
+    for row in REFUSED.lines() {
+        let (at, text) = place_and_text(row).ok_or("a row has two parts")?;
+        refuses(rt.alloc(), text.as_bytes(), at)?;
     }
+    refuses(rt.alloc(), b"'\n'", 1)?;
+    refuses(rt.alloc(), b"'\xff'", 1)
 }
 
 // Checks that the text is read, and the term that is read has it.
@@ -111,29 +122,29 @@ fn reads_deep_terms(rt: HostRuntime) -> Result<(), Fail> {
     reads_back(rt.alloc(), tuples.as_bytes())
 }
 
+// Checks that a text is too deep from this place on.
+fn is_too_deep(alloc: Global, text: &str, at: usize) -> Result<(), Fail> {
+    let fault = read_term(alloc, text.as_bytes()).err();
+    holds(fault == Some(TermFault::TooDeep(at)), "a text is too deep")
+}
+
 #[test]
 fn refuses_what_is_too_deep(rt: HostRuntime) -> Result<(), Fail> {
     let lists = nested(rt.alloc(), "", "[", 10_001, "1", "]")?;
-    let fault = read_term(rt.alloc(), lists.as_bytes()).err();
-    assert_eq!(rt; fault, Some(TermFault::TooDeep(10_001)));
+    is_too_deep(rt.alloc(), lists.as_str(), 10_001)?;
     let unclosed = nested(rt.alloc(), "{1,", "{", 1_000_000, "", "")?;
-    let fault = read_term(rt.alloc(), unclosed.as_bytes()).err();
-    assert_eq!(rt; fault, Some(TermFault::TooDeep(10_003)));
-    Ok(())
+    is_too_deep(rt.alloc(), unclosed.as_str(), 10_003)
 }
 
-// The faults, and their texts.
-const FAULTS: [(TermFault, &str); 3] = [
-    (TermFault::BadTerm(2), "1 BadTerm at 2"),
-    (TermFault::TooDeep(10_001), "2 TooDeep at 10001"),
-    (TermFault::Memory, "3 Memory"),
-];
+// Checks that a fault is written so.
+fn writes_fault(alloc: Global, fault: TermFault, want: &str) -> Result<(), Fail> {
+    let text = format!(in alloc; "{fault}")?;
+    same(text.as_bytes(), want.as_bytes())
+}
 
 #[test]
 fn writes_faults(rt: HostRuntime) -> Result<(), Fail> {
-    for (fault, want) in FAULTS {
-        let text = format!(in rt.alloc(); "{fault}")?;
-        assert_eq!(rt; text.as_str(), want);
-    }
-    Ok(())
+    writes_fault(rt.alloc(), TermFault::BadTerm(2), "1 BadTerm at 2")?;
+    writes_fault(rt.alloc(), TermFault::TooDeep(10_001), "2 TooDeep at 10001")?;
+    writes_fault(rt.alloc(), TermFault::Memory, "3 Memory")
 }

@@ -17,7 +17,7 @@ pub(crate) enum Word {
     Onto(usize),
 }
 
-pub(crate) fn pid(alloc: Global, numbers: &[u64]) -> Result<Pid, AllocError> {
+fn pid(alloc: Global, numbers: &[u64]) -> Result<Pid, AllocError> {
     Pid::new(alloc, Vec::from_slice(alloc, numbers)?)
 }
 
@@ -66,7 +66,7 @@ fn made(alloc: Global, terms: &mut Vec<Term>, word: Word) -> Result<Term, AllocE
 }
 
 // All the terms that the words make.
-pub(crate) fn all_of(alloc: Global, words: &[Word]) -> Result<Vec<Term>, AllocError> {
+fn all_of(alloc: Global, words: &[Word]) -> Result<Vec<Term>, AllocError> {
     let mut terms = Vec::new(alloc);
     for word in words {
         let term = made(alloc, &mut terms, *word)?;

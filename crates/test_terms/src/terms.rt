@@ -1,9 +1,10 @@
 // Terms as they are printed and copied.
 use crate::term_words::Word::{Int, List, Name, Onto, Pid, Ref, Tuple};
-use crate::term_words::{Word, all_of, term, terms};
+use crate::term_words::{Word, term, terms};
 use std::alloc::{AllocError, Global};
 use std::test::Fail;
 use term_core::{Term, write_term};
+use term_reader::read_term;
 use test_support::{MemorySink, holds, same};
 
 // How many bytes a sink takes at a time.
@@ -25,7 +26,7 @@ pub(crate) fn prints(alloc: Global, term: &Term, text: &[u8]) -> Result<(), Fail
 }
 
 // Terms, and how they are printed.
-pub(crate) const PRINTED: [(&[Word], &[u8]); 22] = [
+const PRINTED: [(&[Word], &[u8]); 22] = [
     (&[Int(0)], b"0"),
     (&[Int(i64::MAX)], b"9223372036854775807"),
     (&[Int(i64::MIN)], b"-9223372036854775808"),
@@ -88,9 +89,13 @@ pub(crate) const PRINTED: [(&[Word], &[u8]); 22] = [
     ),
 ];
 
+pub(crate) fn printed() -> &'static [(&'static [Word], &'static [u8])] {
+    &PRINTED
+}
+
 #[test]
 fn prints_terms(rt: HostRuntime) -> Result<(), Fail> {
-    for (words, text) in PRINTED {
+    for (words, text) in printed() {
         let made = term(rt.alloc(), words)?;
         prints(rt.alloc(), &made, text)?;
     }
@@ -129,19 +134,22 @@ fn copies(alloc: Global, words: &[Word], text: &[u8]) -> Result<(), Fail> {
     }
 }
 
+// Checks that a copy of all the terms that these words make is the same.
+fn copies_parts(alloc: Global, words: &[Word]) -> Result<(), Fail> {
+    let parts = terms(alloc, words)?;
+    holds(parts.copy(alloc)? == parts, "a copy of terms is the same")
+}
+
 #[test]
 fn copies_terms(rt: HostRuntime) -> Result<(), Fail> {
-    for (words, text) in PRINTED {
+    for (words, text) in printed() {
         copies(rt.alloc(), words, text)?;
-        let parts = terms(rt.alloc(), words)?;
-        assert!(rt; parts.copy(rt.alloc())? == parts);
+        copies_parts(rt.alloc(), words)?;
     }
     Ok(())
 }
 
-const WHOLE: [Word; 5] = [Name("a"), Int(1), Tuple(2), Ref(&[], 7), Onto(1)];
-
-const WHOLE_TEXT: &[u8] = b"[{'a',1}|#P.7]";
+const WHOLE: &[u8] = b"[{'a',1}|#P.7]";
 
 // Checks that a sink with so much room, which takes so many bytes at a time, gets so many, and fails.
 fn breaks_off(
@@ -153,7 +161,7 @@ fn breaks_off(
 ) -> Result<(), Fail> {
     let mut sink = MemorySink::in_pieces(alloc, room, piece)?;
     let has_failed = write_term(term, &mut sink).is_err() && sink.has_failed;
-    let is_front = sink.bytes.len() == count && WHOLE_TEXT.starts_with(&sink.bytes);
+    let is_front = sink.bytes.len() == count && WHOLE.starts_with(&sink.bytes);
     holds(
         has_failed && is_front,
         "a sink without room breaks a term off",
@@ -162,8 +170,8 @@ fn breaks_off(
 
 #[test]
 fn breaks_off_where_the_sink_fails(rt: HostRuntime) -> Result<(), Fail> {
-    let term = term(rt.alloc(), &WHOLE)?;
-    for room in 0..WHOLE_TEXT.len() {
+    let term = read_term(rt.alloc(), WHOLE)?;
+    for room in 0..WHOLE.len() {
         breaks_off(rt.alloc(), &term, room, 1000, room)?;
     }
     breaks_off(rt.alloc(), &term, 100, 0, 0)

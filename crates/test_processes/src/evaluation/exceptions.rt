@@ -1,59 +1,65 @@
 // Exceptions: how they end a process, and how they are caught and handled.
-use super::runs::{Long, MAIN, ask_all, ask_long, ask_within, asks};
+use super::runs::{MAIN, ask_all, asks, asks_long};
 use std::test::Fail;
 use test_support::nested;
 
-const AN_EXIT: &str = "primop 'raise'({'$trace','exit'},5)";
+// Exceptions that nothing catches, and below each what is asked.
+const ENDS: &str = "\
+primop 'raise'({'$trace','error'},5)
+{5,[]}
 
-const A_THROW: &str = "primop 'raise'({'$trace','throw'},5)";
+primop 'raise'({'$trace','exit'},5)
+5
 
-const AN_ERROR: &str = "primop 'raise'({'$trace','error'},5)";
+primop 'raise'({'$trace','throw'},5)
+{{'nocatch',5},[]}
 
-// A call, which is answered by 1.
-const LETTERS: &str = "call 'ets':'lookup'('t',\"aa\")";
+primop 'raise'({'$trace','fault'},5)
+{'badarg',[]}
 
-const TWO: &str = "<1,2>";
+primop 'raise'({'trace','exit'},5)
+{'badarg',[]}
 
-// Exceptions that nothing catches, and what is asked.
-const ENDS: [(&str, &str); 7] = [
-    (AN_ERROR, "{5,[]}"),
-    (AN_EXIT, "5"),
-    (A_THROW, "{{'nocatch',5},[]}"),
-    ("primop 'raise'({'$trace','fault'},5)", "{'badarg',[]}"),
-    ("primop 'raise'({'trace','exit'},5)", "{'badarg',[]}"),
-    (
-        "primop 'match_fail'({'function_clause',1})",
-        "{'function_clause',[]}",
-    ),
-    ("primop 'match_fail'({'badmatch',1})", "{{'badmatch',1},[]}"),
-];
+primop 'match_fail'({'function_clause',1})
+{'function_clause',[]}
+
+primop 'match_fail'({'badmatch',1})
+{{'badmatch',1},[]}";
 
 #[test]
 fn ends_by_exceptions(rt: HostRuntime) -> Result<(), Fail> {
-    ask_all(rt.alloc(), MAIN, &ENDS)
+    ask_all(rt.alloc(), MAIN, ENDS)
 }
 
-// The call that takes what is caught.
-const CATCH: &str = "call 'ets':'lookup'('t',catch ";
+// What is caught in a call, and below each what is asked.
+const CATCHES: &str = "\
+call 'ets':'lookup'('t',catch primop 'raise'({'$trace','error'},5))
+lookup 't' {'EXIT',{5,[]}}
+'normal'
 
-// What is caught, what closes the call, and what is asked with it.
-const CATCHES: [(&str, &str, &str); 5] = [
-    (AN_ERROR, ")", "lookup 't' {'EXIT',{5,[]}}\n'normal'"),
-    (AN_EXIT, ")", "lookup 't' {'EXIT',5}\n'normal'"),
-    (A_THROW, ")", "lookup 't' 5\n'normal'"),
-    (LETTERS, ")", "lookup 't' [97,97]\nlookup 't' 1\n'normal'"),
-    (TWO, ")", "{'value_count',[]}"),
-];
+call 'ets':'lookup'('t',catch primop 'raise'({'$trace','exit'},5))
+lookup 't' {'EXIT',5}
+'normal'
+
+call 'ets':'lookup'('t',catch primop 'raise'({'$trace','throw'},5))
+lookup 't' 5
+'normal'
+
+call 'ets':'lookup'('t',catch call 'ets':'lookup'('t',\"aa\"))
+lookup 't' [97,97]
+lookup 't' 1
+'normal'
+
+call 'ets':'lookup'('t',catch <1,2>)
+{'value_count',[]}";
 
 #[test]
 fn catches_exceptions(rt: HostRuntime) -> Result<(), Fail> {
-    ask_within(rt.alloc(), CATCH, &CATCHES)
+    ask_all(rt.alloc(), MAIN, CATCHES)
 }
 
 // The call that takes an error with a long tuple.
 const CATCH_LONG: &str = "call 'ets':'lookup'('t',catch primop 'raise'({'$trace','error'},{";
-
-const TOO_LONG: [Long; 1] = [(CATCH_LONG, "1,", 9_995, "1}))", "{'system_limit',[]}")];
 
 // 9,996 nodes, which with what `catch` puts around are 10,000, and one more.
 #[test]
@@ -62,46 +68,46 @@ fn what_is_caught_keeps_the_limit(rt: HostRuntime) -> Result<(), Fail> {
     let front = "lookup 't' {'EXIT',{{";
     let want = nested(rt.alloc(), front, "1,", 9_994, "1},[]}}\n'normal'", "")?;
     asks(rt.alloc(), MAIN, body.as_str(), want.as_str())?;
-    ask_long(rt.alloc(), &TOO_LONG)
+    let limit = "{'system_limit',[]}";
+    asks_long(rt.alloc(), CATCH_LONG, "1,", 9_995, "1}))", limit)
 }
 
-// The call that takes what a `try` gives, and its handlers of two and of three variables.
-const TRY: &str = "call 'ets':'lookup'('t',try ";
+// What a `try` in a call protects, with a handler of two variables or of three, and below each what is asked.
+const HANDLES: &str = "\
+call 'ets':'lookup'('t',try primop 'raise'({'$trace','error'},5) of <X> -> X catch <X,Y> -> {X,Y})
+lookup 't' {'error',5}
+'normal'
 
-const WITH_TWO: &str = " of <X> -> X catch <X,Y> -> {X,Y})";
+call 'ets':'lookup'('t',try primop 'raise'({'$trace','exit'},5) of <X> -> X catch <X,Y> -> {X,Y})
+lookup 't' {'exit',5}
+'normal'
 
-const WITH_THREE: &str = " of <X> -> X catch <X,Y,Z> -> {X,Y,Z})";
+call 'ets':'lookup'('t',try primop 'raise'({'$trace','throw'},5) of <X> -> X catch <X,Y> -> {X,Y})
+lookup 't' {'throw',5}
+'normal'
 
-// What is protected, the handler, and what is asked.
-const HANDLES: [(&str, &str, &str); 8] = [
-    (AN_ERROR, WITH_TWO, "lookup 't' {'error',5}\n'normal'"),
-    (AN_EXIT, WITH_TWO, "lookup 't' {'exit',5}\n'normal'"),
-    (A_THROW, WITH_TWO, "lookup 't' {'throw',5}\n'normal'"),
-    (
-        LETTERS,
-        WITH_TWO,
-        "lookup 't' [97,97]\nlookup 't' 1\n'normal'",
-    ),
-    // outside of what is protected
-    (TWO, WITH_TWO, "{'value_count',[]}"),
-    (
-        AN_ERROR,
-        WITH_THREE,
-        "lookup 't' {'error',5,{'$trace','error'}}\n'normal'",
-    ),
-    (
-        AN_EXIT,
-        WITH_THREE,
-        "lookup 't' {'exit',5,{'$trace','exit'}}\n'normal'",
-    ),
-    (
-        A_THROW,
-        WITH_THREE,
-        "lookup 't' {'throw',5,{'$trace','throw'}}\n'normal'",
-    ),
-];
+call 'ets':'lookup'('t',try call 'ets':'lookup'('t',\"aa\") of <X> -> X catch <X,Y> -> {X,Y})
+lookup 't' [97,97]
+lookup 't' 1
+'normal'
+
+% outside of what is protected
+call 'ets':'lookup'('t',try <1,2> of <X> -> X catch <X,Y> -> {X,Y})
+{'value_count',[]}
+
+call 'ets':'lookup'('t',try primop 'raise'({'$trace','error'},5) of <X> -> X catch <X,Y,Z> -> {X,Y,Z})
+lookup 't' {'error',5,{'$trace','error'}}
+'normal'
+
+call 'ets':'lookup'('t',try primop 'raise'({'$trace','exit'},5) of <X> -> X catch <X,Y,Z> -> {X,Y,Z})
+lookup 't' {'exit',5,{'$trace','exit'}}
+'normal'
+
+call 'ets':'lookup'('t',try primop 'raise'({'$trace','throw'},5) of <X> -> X catch <X,Y,Z> -> {X,Y,Z})
+lookup 't' {'throw',5,{'$trace','throw'}}
+'normal'";
 
 #[test]
 fn handles_exceptions(rt: HostRuntime) -> Result<(), Fail> {
-    ask_within(rt.alloc(), TRY, &HANDLES)
+    ask_all(rt.alloc(), MAIN, HANDLES)
 }

@@ -1,4 +1,5 @@
 // Receives: which messages they take, how they go on, and which timeouts there are.
+use super::blocks::halves;
 use super::runs::{MAIN, ends, first_process, program};
 use crate::requests::text_of;
 use core_eval::{Answer, Machine};
@@ -135,14 +136,13 @@ fn a_copy_receives_the_same(rt: HostRuntime) -> Result<(), Fail> {
 }
 
 // Timeouts, what is asked with them, and what where no message came in time.
-const TIMEOUTS: [(&str, &str, &str); 6] = [
-    ("0", "receives", "lookup 't' 9"),
-    ("4294967295", "receives", "lookup 't' 9"),
-    ("'infinity'", "receives", "receives"),
-    ("4294967296", "{'timeout_value',[]}", "{'timeout_value',[]}"),
-    ("-1", "{'timeout_value',[]}", "{'timeout_value',[]}"),
-    ("'soon'", "{'timeout_value',[]}", "{'timeout_value',[]}"),
-];
+const TIMEOUTS: &str = "\
+0 -> receives -> lookup 't' 9
+4294967295 -> receives -> lookup 't' 9
+'infinity' -> receives -> receives
+4294967296 -> {'timeout_value',[]} -> {'timeout_value',[]}
+-1 -> {'timeout_value',[]} -> {'timeout_value',[]}
+'soon' -> {'timeout_value',[]} -> {'timeout_value',[]}";
 
 // Checks that a machine asks the first, and then the other where no message came in time.
 fn times_out(alloc: Global, machine: &mut Machine, first: &str, then: &str) -> Result<(), Fail> {
@@ -165,12 +165,18 @@ fn with_timeout(alloc: Global, timeout: &str) -> Result<Module, Fail> {
     program(alloc, MAIN, body.as_str())
 }
 
+// Checks that the module with the timeout of a line does so.
+fn times_out_so(alloc: Global, line: &str) -> Result<(), Fail> {
+    let (timeout, asked) = halves(line, " -> ")?;
+    let (first, then) = halves(asked, " -> ")?;
+    let program = with_timeout(alloc, timeout)?;
+    times_out_in(alloc, &program, first, then)
+}
+
 #[test]
 fn timeouts_are_judged_first(rt: HostRuntime) -> Result<(), Fail> {
-    let alloc = rt.alloc();
-    for (timeout, first, then) in TIMEOUTS {
-        let program = with_timeout(alloc, timeout)?;
-        times_out_in(alloc, &program, first, then)?;
+    for line in TIMEOUTS.split('\n') {
+        times_out_so(rt.alloc(), line)?;
     }
     Ok(())
 }

@@ -1,4 +1,5 @@
 // Modules from texts, and what their processes ask, as text.
+use super::blocks::{below_comment, first_line, halves};
 use crate::requests::text_of;
 use core_eval::{Answer, Machine, Request, start};
 use core_reader::{Module, read_module};
@@ -74,41 +75,47 @@ pub(crate) fn asks(alloc: Global, front: &str, body: &str, want: &str) -> Result
     begins(alloc, &program, "main", want)
 }
 
-// Checks that each of these bodies asks what is listed with it.
-pub(crate) fn ask_all(alloc: Global, front: &str, rows: &[(&str, &str)]) -> Result<(), Fail> {
-    for row in rows {
-        asks(alloc, front, row.0, row.1)?;
+// Checks that the body of a block asks what is below it.
+fn asks_so(alloc: Global, front: &str, block: &str) -> Result<(), Fail> {
+    let (body, want) = first_line(below_comment(block)?)?;
+    asks(alloc, front, body, want)
+}
+
+// Checks that each of these bodies asks what is below it.
+pub(crate) fn ask_all(alloc: Global, front: &str, blocks: &str) -> Result<(), Fail> {
+    for block in blocks.split("\n\n") {
+        asks_so(alloc, front, block)?;
     }
     Ok(())
 }
 
-// A long body: its front, what is repeated, how often, and the rest; and what is asked.
-pub(crate) type Long = (
-    &'static str,
-    &'static str,
-    usize,
-    &'static str,
-    &'static str,
-);
-
-// Checks that each of these bodies of `'main'/0` asks what is listed with it.
-pub(crate) fn ask_long(alloc: Global, rows: &[Long]) -> Result<(), Fail> {
-    for (front, unit, count, back, want) in rows {
-        let body = nested(alloc, front, unit, *count, back, "")?;
-        asks(alloc, MAIN, body.as_str(), want)?;
-    }
-    Ok(())
-}
-
-// Checks that each of these expressions, between this front and its back, asks what is listed with it.
-pub(crate) fn ask_within(
+// Checks that a body of `'main'/0` asks this: its front, so many times the unit, and the rest.
+pub(crate) fn asks_long(
     alloc: Global,
     front: &str,
-    rows: &[(&str, &str, &str)],
+    unit: &str,
+    count: usize,
+    back: &str,
+    want: &str,
 ) -> Result<(), Fail> {
-    for (inner, back, want) in rows {
-        let body = format!(in alloc; "{front}{inner}{back}")?;
-        asks(alloc, MAIN, body.as_str(), want)?;
+    let body = nested(alloc, front, unit, count, back, "")?;
+    asks(alloc, MAIN, body.as_str(), want)
+}
+
+// Checks that the long body of a block asks what is below it. A line of the block is the front of the body, one says how
+// often it repeats what, and one is the rest.
+fn asks_long_so(alloc: Global, block: &str) -> Result<(), Fail> {
+    let (front, block) = first_line(below_comment(block)?)?;
+    let (repeated, block) = first_line(block)?;
+    let (back, want) = first_line(block)?;
+    let (count, unit) = halves(repeated, " times ")?;
+    asks_long(alloc, front, unit, count.parse()?, back, want)
+}
+
+// Checks that each of these long bodies asks what is below it.
+pub(crate) fn ask_long(alloc: Global, blocks: &str) -> Result<(), Fail> {
+    for block in blocks.split("\n\n") {
+        asks_long_so(alloc, block)?;
     }
     Ok(())
 }

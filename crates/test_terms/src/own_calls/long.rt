@@ -1,5 +1,5 @@
 // Lists of 300,000 items.
-use super::words::own;
+use super::answers::own;
 use core_pure_calls::{Dictionary, Outcome, answer};
 use core_tree::PureCall;
 use std::alloc::{AllocError, Global};
