@@ -5,7 +5,7 @@ definitions and the proofs. The checked program was built by tools/build_checked
 proofs; it depends on the code alone. Each is kept in a folder that has the sum of these sources as its name:
 out/proved/SUM/schedule_explorer and out/checked/SUM/schedule_explorer. So a program is never taken for that of other
 sources, and is there again where a change is taken back. Who builds one has to see that the sum is still the same at the
-end: a source may be edited while it is read.
+end: a source may be edited while it is read. The tests of a crate are a program too, which tools/dev builds and keeps so.
 
 (Each run of the program begins here, so what takes long to import is imported where it is used.)
 """
@@ -56,15 +56,15 @@ def report(what, text):
 
 
 class Kind:
-    """A kind of program: the proved one, or the checked one."""
+    """A kind of program: the proved one, the checked one, or the tests of a crate."""
 
-    def __init__(self, name, parts):
-        self.folder, self.parts = ROOT / "out" / name, parts
+    def __init__(self, name, parts, crate=PROGRAM):
+        self.folder, self.parts, self.crate = ROOT / "out" / name, parts, crate
 
     def sources(self):
         """The folders and files that the program is made of, from the root of the repository."""
         crates = listed()
-        names = [*below([PROGRAM], crates), PROGRAM]
+        names = [*below([self.crate], crates), self.crate]
         return ["crates.txt", "HANDLES", *(f"crates/{name}/{part}" for name in names for part in self.parts)]
 
     def sum(self):
@@ -80,7 +80,7 @@ class Kind:
 
     def place(self, sum_of_sources):
         """Where the program of sources with this sum is kept."""
-        return self.folder / sum_of_sources / PROGRAM
+        return self.folder / sum_of_sources / self.crate
 
     def present(self):
         """The program of the present sources; none where it was not built."""
@@ -96,7 +96,7 @@ class Kind:
         place = self.place(sum_of_sources)
         place.parent.mkdir(parents=True, exist_ok=True)
         # another name first, so that nobody meets half of it
-        new = place.with_name(f"{PROGRAM}.{os.getpid()}")
+        new = place.with_name(f"{self.crate}.{os.getpid()}")
         shutil.copyfile(program, new)
         new.chmod(0o755)
         place.with_name("kit").write_text(name_of(kit) + "\n")
