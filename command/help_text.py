@@ -34,7 +34,7 @@ What is explored:
                        would take long, or where it has visited as many nodes at one depth as --nodes says.
   --workers N          N threads explore, 1 to 16. Without this there is one. It helps with --tree. A search by states
                        gains next to nothing: only levels of 4096 states and more are shared out.
-  --after-timeout MS   Timeouts of MS milliseconds and more never come.
+  --after-timeout MS   Timeouts and timers of MS milliseconds and more never come.
   --applications N     A process may call functions of its modules N times, 1 to 1000000, before it sends, receives or
                        asks for anything. One that calls more runs away. Without this 10000.
   --replay SCHEDULE    Shows what happens in one schedule, such as "P P P.1>P". Nothing is explored.

@@ -40,8 +40,7 @@
 'proc_lib:hibernate'(M, F, A) -> proc_lib:wake_up(M, F, A), exit(normal).
 'sys:handle_system_msg'(Message, From, Parent, Module, Debug, Misc, _) -> sys:handle_system_msg(Message, From, Parent, Module, Debug, Misc).
 
-%% ---- gen: a process has its name where whereis/1 says so, and a reply goes to the process, not to an alias. One that comes
-%% after the time of its call is selected by no receive (src/late_replies.erl).
+%% ---- gen: a process has its name where whereis/1 says so
 
 'gen:get_proc_name'(Pid) when is_pid(Pid) -> Pid;
 'gen:get_proc_name'({local, Name}) ->
@@ -58,39 +57,6 @@
     case Module:whereis_name(Name) =:= self() of
         true -> Name;
         false -> exit({process_not_registered_via, Module})
-    end.
-
-'gen:do_call'(Process, _, _, _) when Process =:= self() -> exit(calling_self);
-'gen:do_call'(Process, Label, Request, infinity) ->
-    Ref = monitor(process, Process),
-    Process ! {Label, {self(), Ref}, Request},
-    receive
-        {Ref, Reply} -> demonitor(Ref, [flush]), {ok, Reply};
-        {'DOWN', Ref, _, _, Reason} -> exit(Reason)
-    end;
-'gen:do_call'(Process, Label, Request, Timeout) ->
-    Ref = monitor(process, Process),
-    Tag = ['alias of a call' | Ref],
-    Process ! {Label, {self(), Tag}, Request},
-    receive
-        {Tag, Reply} -> demonitor(Ref, [flush]), {ok, Reply};
-        {'DOWN', Ref, _, _, Reason} -> exit(Reason)
-    after Timeout ->
-        demonitor(Ref, [flush]),
-        receive
-            {Tag, Reply} -> {ok, Reply}
-        after 0 -> exit(timeout)
-        end
-    end.
-
-'gen:do_send_request'(Process, Tag, Request) ->
-    Ref = monitor(process, Process),
-    Process ! {Tag, {self(), [alias | Ref]}, Request},
-    Ref.
-
-'gen:reply'({To, Tag}, Reply) ->
-    try To ! {Tag, Reply}, ok
-    catch _:_ -> ok
     end.
 
 %% ---- what is sent to a name on a node goes to that name, where it is this node, and is lost else

@@ -1,6 +1,6 @@
 %% A timer is cancelled when its message may be there already.
 %% want: main ends {late,tick} in some schedule
-%% depth: 12
+%% depth: 5
 %% error: P ends {'late','tick'}
 -module(timer_cancelled_late).
 -export([main/0]).

@@ -1,6 +1,6 @@
 %% A worker is ended where it takes too long, and may just have answered.
 %% want: main ends {ended,killed} in some schedule, and the worker killed; a worker that ended has answered
-%% depth: 20
+%% depth: 19
 %% error: P ends {'ended','killed'}
 %% error: P.1 ends 'killed'
 -module(worker_too_slow).

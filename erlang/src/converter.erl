@@ -157,13 +157,16 @@ begun(RunsWhenLoaded, Modules, #options{entry = Asked} = Options, Library, New) 
 converted(Entry, Modules, Options, Library, L0) ->
     Module = modules:main(Modules),
     File = modules:file(Modules),
-    Link = fun(Replace) -> linker:link(Entry, {Modules, Library}, fun(D, L) -> prepared(Replace(D), Library, Options, L) end, L0) end,
-    {Tables, {Called, Exports, Read, L1}} = with_tables(Link, Link(fun(D) -> D end)),
+    Limit = Options#options.after_timeout,
+    Link = fun(Replace, Timers, Here) ->
+                   Known = timer_kinds:library(Timers, Limit, Library),
+                   linker:link(Entry, {Here, Known}, fun(D, L) -> prepared(Replace(D), Known, Options, L) end, L0)
+           end,
+    {Tables, {Called, Exports, Read, _, L1}} = with_kinds(Link, Modules, Limit),
     L2 = doubts:find([Ds || {_, [#definition{origin = source} | _] = Ds} <- Read], Tables, L1),
     Complete = atom_texts:complete(table_forms:settle(Tables, Called)),
-    Selecting = late_replies:leave(Complete),
-    Size = odd_tuples:free_size([D#definition.code || D <- Selecting]),
-    Plain = [odd_tuples:replace(Size, D) || D <- Selecting],
+    Size = odd_tuples:free_size([D#definition.code || D <- Complete]),
+    Plain = [odd_tuples:replace(Size, D) || D <- Complete],
     {FirstOrder, NewExports, L3} = function_values:replace(Plain, Module, Size, L2),
     AllExports = lists:usort(Exports ++ NewExports),
     Reached = reach:by_names(FirstOrder, [{main, 0} | AllExports]),
@@ -171,13 +174,17 @@ converted(Entry, Modules, Options, Library, L0) ->
     Ledger = readable:check(File, Stopped, Module, AllExports, L4),
     {fun() -> core_text:module(File, Module, {AllExports, Options#options.applications}, Stopped) end, fun() -> clause_places:text(File, Stopped) end, Ledger}.
 
-%% Which tables there are is known once it is known what is reached: where there are some, it is linked again, with the calls
-%% of ets as they have to be.
-with_tables(Link, {_, _, Read, _} = Linked) ->
-    Tables = table_kinds:of_source(lists:append([Definitions || {_, Definitions} <- Read])),
-    case table_kinds:is_none(Tables) of
-        true -> {Tables, Linked};
-        false -> {Tables, Link(fun(D) -> table_forms:replace(D, Tables) end)}
+%% Which tables and timers there are is known once it is known what is reached: where there are some that need it, it is linked
+%% again, with the calls of ets as they have to be, and with timers of the library.
+with_kinds(Link, Modules, Limit) ->
+    Same = fun(D) -> D end,
+    {_, _, Read, Loaded, _} = Linked = Link(Same, explored, Modules),
+    Definitions = lists:append([Ds || {_, Ds} <- Read]),
+    Tables = table_kinds:of_source(Definitions),
+    case {table_kinds:is_none(Tables), timer_kinds:of_source(Definitions, Limit)} of
+        {true, explored} -> {Tables, Linked};
+        {true, Timers} -> {Tables, Link(Same, Timers, Loaded)};
+        {false, Timers} -> {Tables, Link(fun(D) -> table_forms:replace(D, Tables) end, Timers, Loaded)}
     end.
 
 %% A definition with its receives, clauses, timeouts, maps and binaries in forms that are read.

@@ -6,16 +6,17 @@
 
 -include("core.hrl").
 
-%%   timers   whether the module makes timers
+%%   timers   whether the module makes timers that may be for a name
 %%   spawns   whether it makes processes
 %%   deletes  whether it takes objects out of tables
-%%   known    what the variables of the function at hand are, as far as it is plain: map, binary, function, timer or reference
+%%   known    what the variables of the function at hand are, as far as it is plain: map, binary, function, timer, which may be
+%%            for a name, or reference; {processes} are those that have a process
 -record(scope, {timers, spawns, deletes, known = #{}, ledger}).
 
 %% The ledger with the doubts that definitions of the source give, a list of them for each module.
 find(Modules, Tables, Ledger) ->
     Codes = [Code || Definitions <- Modules, #definition{code = Code} <- Definitions],
-    Scope = #scope{timers = lists:any(fun(C) -> has(fun is_timer/1, C) end, Codes),
+    Scope = #scope{timers = lists:any(fun makes_named_timer/1, Codes),
                    spawns = lists:any(fun(C) -> has(fun is_spawn/1, C) end, Codes),
                    deletes = lists:any(fun(C) -> has(fun is_delete/1, C) end, Codes), ledger = Ledger},
     (lists:foldl(fun(Definitions, S) -> of_module(Definitions, Tables, S) end, Scope, Modules))#scope.ledger.
@@ -31,11 +32,9 @@ of_function(#definition{code = Code} = D, Functions, Scope) ->
 
 has(Is, Code) -> core_tree:fold(fun(Node, Found) -> Found orelse Is(Node) end, false, Code).
 
-is_timer(#c_call{module = #c_literal{val = erlang}, name = #c_literal{val = F}, args = [_, _, _]}) ->
-    lists:member(F, [send_after, start_timer]);
-is_timer(#c_call{module = #c_literal{val = timer}, name = #c_literal{val = F}}) ->
-    lists:member(F, [send_after, exit_after, kill_after]);
-is_timer(_) -> false.
+makes_named_timer(Code) ->
+    Processes = timer_kinds:processes(Code),
+    has(fun(Node) -> timer_kinds:may_be_named(Node, Processes) end, Code).
 
 is_spawn(#c_call{module = #c_literal{val = M}, name = #c_literal{val = F}}) ->
     M =:= erlang andalso lists:member(F, [spawn, spawn_link, spawn_monitor])
@@ -54,7 +53,7 @@ known(#definition{name = Name, code = #c_fun{vars = Vars} = Code}, Functions) ->
     Asked = core_tree:fold(fun is_asked/2, [], Code),
     Taken = [{V, maps:get({takes, Name, I}, Functions)} || {I, #c_var{name = V}} <- numbered(Vars), is_map_key({takes, Name, I}, Functions),
                                                            not lists:member(V, Asked)],
-    Before = maps:merge(Functions, maps:from_list(Taken)),
+    Before = maps:merge(Functions#{{processes} => timer_kinds:processes(Code)}, maps:from_list(Taken)),
     core_tree:fold(fun(#c_let{vars = [#c_var{name = V}], arg = Value}, Known) -> Known#{V => kind(Value, Known)};
                       (#c_case{arg = Value, clauses = Clauses}, Known) when not is_record(Value, c_values) ->
                            maps:merge(Known, maps:from_list([{V, kind(Value, Known)} || #c_clause{pats = [#c_var{name = V}]} <- Clauses]));
@@ -119,10 +118,10 @@ kind(#c_call{module = #c_literal{val = binary}, name = #c_literal{val = F}}, _) 
         true -> binary;
         false -> unknown
     end;
-kind(#c_call{module = #c_literal{val = erlang}, name = #c_literal{val = F}} = Call, _) ->
-    case is_timer(Call) of
+kind(#c_call{module = #c_literal{val = erlang}, name = #c_literal{val = F}} = Call, Known) ->
+    case timer_kinds:may_be_named(Call, maps:get({processes}, Known, [])) of
         true -> timer;
-        false when F =:= make_ref; F =:= monitor -> reference;
+        false when F =:= make_ref; F =:= monitor; F =:= alias; F =:= start_timer; F =:= send_after -> reference;
         false when F =:= list_to_binary; F =:= iolist_to_binary; F =:= integer_to_binary; F =:= binary_part -> binary;
         false -> unknown
     end;
@@ -169,8 +168,8 @@ written(V, Tree) ->
 
 %% A timer that a variable does not plainly have may be anywhere that a reference can be; few ask for a pid of one.
 doubt({erlang, is_reference, 1}, [Kind], _, #scope{timers = true}) when Kind =:= unknown; Kind =:= timer ->
-    "a timer is a pid here, and PLACE asks is_reference/1";
-doubt({erlang, is_pid, 1}, [timer], _, _) -> "a timer is a pid here, and PLACE asks is_pid/1 of one";
+    "a timer for a name is a pid here, and PLACE asks is_reference/1";
+doubt({erlang, is_pid, 1}, [timer], _, _) -> "a timer for a name is a pid here, and PLACE asks is_pid/1 of one";
 doubt({ets, F, A}, _, Args, #scope{spawns = true} = S) ->
     case is_several({F, A}, Args, S) of
         true -> io_lib:format("ets:~ts/~w at PLACE is several steps here, and in Erlang it is one", [F, A]);

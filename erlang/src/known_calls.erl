@@ -29,7 +29,8 @@ is_of_dictionary(_, _, _) -> false.
 is_request(erlang, F, A) ->
     lists:member({F, A}, [{spawn, 3}, {spawn_link, 3}, {spawn_monitor, 3}, {'!', 2}, {send, 2}, {exit, 2}, {link, 1},
                           {unlink, 1}, {monitor, 2}, {demonitor, 1}, {demonitor, 2}, {process_flag, 2}, {register, 2},
-                          {unregister, 1}, {whereis, 1}, {is_process_alive, 1}, {make_ref, 0}]);
+                          {unregister, 1}, {whereis, 1}, {is_process_alive, 1}, {make_ref, 0}, {monitor, 3}, {alias, 0},
+                          {alias, 1}, {unalias, 1}, {start_timer, 3}, {send_after, 3}, {cancel_timer, 1}, {read_timer, 1}]);
 is_request(ets, F, A) ->
     lists:member({F, A}, [{new, 2}, {lookup, 2}, {member, 2}, {lookup_element, 3}, {first, 1}, {last, 1},
                           {next, 2}, {prev, 2}, {tab2list, 1}, {insert, 2}, {insert_new, 2}, {delete, 1},
@@ -53,20 +54,23 @@ objection(_, {erlang, process_flag, 2}, [#c_literal{val = trap_exit}, _]) -> non
 objection(_, {erlang, process_flag, 2}, [#c_literal{val = Flag}, _]) ->
     unknown(io_lib:format("process_flag(~tw, ..)", [Flag]));
 objection(_, {erlang, process_flag, 2}, _) -> unknown("process_flag/2 of a computed flag");
-objection(_, {erlang, monitor, 2}, [#c_literal{val = process}, #c_literal{}]) ->
-    {refuse, "monitor/2 of a name", "monitor/2 of a name is not known here: use whereis/1"};
-objection(_, {erlang, monitor, 2}, [#c_literal{val = process}, #c_tuple{}]) ->
-    {refuse, "monitor/2 of a name", "monitor/2 of a name is not known here: use whereis/1"};
-objection(_, {erlang, monitor, 2}, [#c_literal{val = process}, _]) -> {note, "monitor/2 of what turns out to be a name is badarg here"};
-objection(_, {erlang, monitor, 2}, [#c_literal{val = Kind}, _]) ->
-    unknown(io_lib:format("monitor(~tw, ..)", [Kind]));
-objection(_, {erlang, monitor, 2}, _) -> unknown("monitor/2 of a computed kind");
+objection(_, {erlang, monitor, 2}, [Kind, Watched]) -> watch("monitor/2", Kind, Watched);
+objection(_, {erlang, monitor, 3}, [Kind, Watched, #c_literal{val = Options}]) ->
+    case are_of_alias(Options) of
+        true -> watch("monitor/3", Kind, Watched);
+        false -> unknown(io_lib:format("monitor/3 with ~tw", [Options]))
+    end;
+objection(_, {erlang, monitor, 3}, _) -> unknown("monitor/3 with computed options");
 objection(_, {erlang, demonitor, 2}, [_, #c_literal{val = Options}]) when Options =:= []; Options =:= [flush] -> none;
 objection(_, {erlang, demonitor, 2}, [_, #c_literal{val = Options}]) ->
     unknown(io_lib:format("demonitor/2 with ~tw", [Options]));
 objection(_, {erlang, demonitor, 2}, _) -> unknown("demonitor/2 with computed options");
 objection(_, {erlang, Send, 2}, [#c_tuple{}, _]) when Send =:= '!'; Send =:= send -> to_a_node();
 objection(_, {erlang, Send, 2}, [#c_literal{val = To}, _]) when is_tuple(To), Send =:= '!' orelse Send =:= send -> to_a_node();
+objection(_, {erlang, Start, 3}, _) when Start =:= start_timer; Start =:= send_after ->
+    {note, "a timer may come at once here, as each timeout may"};
+objection(_, {erlang, F, 1}, _) when F =:= cancel_timer; F =:= read_timer ->
+    {note, io_lib:format("erlang:~ts/1 gives the whole time of a timer here, not what is left of it", [F])};
 objection(_, {ets, info, 2}, [_, #c_literal{val = Item}]) ->
     case lists:member(Item, [name, owner, heir, size, type, protection, keypos, named_table]) of
         true -> none;
@@ -75,6 +79,19 @@ objection(_, {ets, info, 2}, [_, #c_literal{val = Item}]) ->
 objection(_, {erlang, F, A}, _) when F =:= get_keys; A =:= 0, F =:= get orelse F =:= erase ->
     {note, io_lib:format("the list of erlang:~ts/~w is in the order of its keys here", [F, A])};
 objection(_, _, _) -> none.
+
+%% A watch of what is meant by its kind.
+watch(Call, #c_literal{val = process}, #c_literal{}) -> watch_of_name(Call);
+watch(Call, #c_literal{val = process}, #c_tuple{}) -> watch_of_name(Call);
+watch(Call, #c_literal{val = process}, _) -> {note, Call ++ " of what turns out to be a name is badarg here"};
+watch(_, #c_literal{val = Kind}, _) -> unknown(io_lib:format("monitor(~tw, ..)", [Kind]));
+watch(Call, _, _) -> unknown(Call ++ " of a computed kind").
+
+watch_of_name(Call) -> {refuse, Call ++ " of a name", Call ++ " of a name is not known here: use whereis/1"}.
+
+%% Whether options of monitor/3 only say how an alias ends.
+are_of_alias([{alias, How} | Options]) -> lists:member(How, [explicit_unalias, demonitor, reply_demonitor]) andalso are_of_alias(Options);
+are_of_alias(Options) -> Options =:= [].
 
 %% What is known of an operation on an object before it is computed.
 shape(#c_literal{val = V}) when is_integer(V) -> integer;

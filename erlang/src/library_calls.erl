@@ -39,6 +39,8 @@ special(erlang, send, [To, Message, #c_literal{val = Options}], N) when length(O
         [] -> {sent(N, To, Message, ok), []};
         _ -> none
     end;
+special(erlang, Start, [Time, To, Message, #c_literal{val = []}], N) when Start =:= start_timer; Start =:= send_after ->
+    {call, N#c_call{args = [Time, To, Message]}, []};
 special(erlang, send_nosuspend, [To, Message], N) -> {sent(N, To, Message, true), []};
 special(erlang, send_nosuspend, [To, Message, #c_literal{val = [noconnect]}], N) -> {sent(N, To, Message, true), []};
 special(erlang, Shift, [X, #c_literal{val = Places}], N)
@@ -114,10 +116,12 @@ raised(Notes, Class, Reason) ->
 notes_of({ets, F, A}) -> notes_of_tables(F, A);
 notes_of({M, _, _}) when M =:= counters; M =:= atomics ->
     ["counters and atomics go with the process that made them here: what asks for them later is not read"];
-notes_of({erlang, F, A}) when F =:= send_after; F =:= start_timer; F =:= cancel_timer ->
-    ["a timer is a process here, not a reference, and may come at once",
-     lists:concat(["erlang:", F, "/", A, " is made of several steps here"])];
-notes_of({timer, F, A}) when F =/= seconds, F =/= minutes, F =/= hours, F =/= tc, F =/= now_diff ->
+notes_of({erlang, F, _}) when F =:= send_after; F =:= start_timer ->
+    ["a timer may come at once here, as each timeout may", "a timer for a name is a process here, not a reference"];
+notes_of({erlang, F, A}) when F =:= cancel_timer; F =:= read_timer ->
+    [lists:concat(["erlang:", F, "/", A, " gives the whole time of a timer here, not what is left of it, and 0 of one for a name"])];
+notes_of({timer, send_after, A}) -> [lists:concat(["timer:send_after/", A, " may come at once here, as each timeout may"])];
+notes_of({timer, F, A}) when F =:= apply_after; F =:= exit_after; F =:= kill_after; F =:= send_interval ->
     [lists:concat(["timer:", F, "/", A, " makes a process here, and may come at once"])];
 notes_of({lists, F, 2}) when F =:= sort; F =:= usort -> [lists:concat(["lists:", F, "/2 calls its function on other pairs here"])];
 notes_of({M, set, 2}) when M =:= 'flag without effect'; M =:= 'flag that is computed' ->

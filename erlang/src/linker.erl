@@ -24,8 +24,9 @@
 -record(link, {modules, library, index, entry, prepare, done = #{}, sites = #{}, atoms = #{}, matched = #{}, begun = #{}, apart = false,
                ledger, context, origin, home, uses = []}).
 
-%% {Definitions, Exports, Read, Ledger}, where Read is [{Module, its definitions as they were read}]: what is reached from the
-%% function Entry, {Module, Name}. Prepare(Definition, Ledger) is done with each before its calls are resolved.
+%% {Definitions, Exports, Read, Modules, Ledger}, where Read is [{Module, its definitions as they were read}], and Modules are
+%% those with what was read of them: what is reached from the function Entry, {Module, Name}. Prepare(Definition, Ledger) is
+%% done with each before its calls are resolved.
 link(Entry, {Modules, Library}, Prepare, Ledger) ->
     Begin = #link{modules = Modules, library = Library, index = index(Library), entry = Entry, prepare = Prepare, ledger = Ledger,
                   atoms = maps:from_list([{Atom, true} || Atom <- atom_texts:made(Library)])},
@@ -42,7 +43,7 @@ made(#link{entry = {Module, Name}, done = Done, begun = Begun} = Link) ->
     Exports = [name(K, Link) || {in, M, N} = K <- Keys, M =:= Main, lists:member(N, Exported)] ++ maps:keys(Begun),
     Linked = [New || K <- Keys, {_, New} <- [maps:get(K, Done)]],
     {begin_system(Link, Linked ++ first(name(Key, Link))) ++ choosers(Link),
-     lists:usort(Exports), read_of(Keys, Done),
+     lists:usort(Exports), read_of(Keys, Done), Link#link.modules,
      ledger:within(source, Link#link.ledger)}.
 
 %% Keys of one module come one after the other.

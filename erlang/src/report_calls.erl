@@ -48,7 +48,7 @@ beginning([#event{who = Client, deed = {call, erlang, whereis, [Name], {ok, {pid
         {Tag, Request, Last, Left} -> begun(Last, Client, Server, Name, Tag, Request, Begun, Known, Left);
         none -> none
     end;
-beginning([#event{who = Client, deed = {call, erlang, monitor, [_, {pid, Server}], _}} | _] = Events, Begun, Known) ->
+beginning([#event{who = Client, deed = {call, erlang, monitor, [_, {pid, Server} | _], _}} | _] = Events, Begun, Known) ->
     case asked(Events, Client, Server) of
         {Tag, Request, Last, Left} -> begun(Last, Client, Server, {pid, Server}, Tag, Request, Begun, Known, Left);
         none -> none
@@ -56,9 +56,9 @@ beginning([#event{who = Client, deed = {call, erlang, monitor, [_, {pid, Server}
 beginning(_, _, _) -> none.
 
 %% {Tag, Request, the number of the last event, what comes after}, or none.
-asked([#event{who = Client, deed = {call, erlang, monitor, [{atom, process}, {pid, Server}], {ok, Reference}}},
-       #event{who = Client, deed = {call, erlang, '!', [{pid, Server}, Message], {ok, _}}},
-       #event{number = Last, who = {Client, Server}, deed = {brings, Message}} | Rest], Client, Server) ->
+asked([#event{who = Client, deed = {call, erlang, monitor, [{atom, process}, {pid, Server} | _], {ok, Reference}}},
+       #event{who = Client, deed = {call, erlang, Send, [{pid, Server}, Message], {ok, _}}},
+       #event{number = Last, who = {Client, Server}, deed = {brings, Message}} | Rest], Client, Server) when Send =:= '!'; Send =:= send ->
     case Message of
         {tuple, [{atom, '$gen_call'}, {tuple, [{pid, Client}, Tag]}, Request]} ->
             case is_tag(Tag, Reference) of
@@ -69,8 +69,9 @@ asked([#event{who = Client, deed = {call, erlang, monitor, [{atom, process}, {pi
     end;
 asked(_, _, _) -> none.
 
+%% A call with a time is answered by an alias.
 is_tag(Reference, Reference) -> true;
-is_tag({list, [{atom, 'alias of a call'}], Reference}, Reference) -> true;
+is_tag({list, [{atom, alias}], Reference}, Reference) -> true;
 is_tag(_, _) -> false.
 
 begun(Last, Client, Server, Name, Tag, Request, Begun, {Roles, Places}, Rest) ->
@@ -79,11 +80,20 @@ begun(Last, Client, Server, Name, Tag, Request, Begun, {Roles, Places}, Rest) ->
 
 %% What a server does from when it takes a call until its answer has arrived.
 answer([#event{number = Number, who = Server, deed = {receives, {tuple, [{atom, '$gen_call'}, {tuple, [{pid, Client}, Tag]}, Request]}}},
-        #event{who = Server, deed = {call, erlang, '!', [{pid, Client}, {tuple, [Tag, Given]} = Message], {ok, _}}},
-        #event{number = Last, who = {Server, Client}, deed = {brings, Message}} | Rest], Begun, {_, Places}) ->
-    Text = ["answers ", Client, ": ", report_term:text(Request), " -> ", report_term:text(Given)],
-    {Last, Server, Text, maps:get(Number, Places, none), Begun, Rest};
+        #event{who = Server, deed = {call, erlang, '!', [To, {tuple, [Tag, Given]} = Message], {ok, _}}},
+        #event{number = Last, who = {Server, Client}, deed = Deed} | Rest], Begun, {_, Places}) ->
+    case is_answer(To, Deed, Client, Tag, Message) of
+        true ->
+            Text = ["answers ", Client, ": ", report_term:text(Request), " -> ", report_term:text(Given)],
+            {Last, Server, Text, maps:get(Number, Places, none), Begun, Rest};
+        false -> none
+    end;
 answer(_, _, _) -> none.
+
+%% Whether what was sent arrives: to the client, or by the alias that its tag has.
+is_answer({pid, Client}, {brings, Message}, Client, _, Message) -> true;
+is_answer(Alias, {alias, Alias, Message, {message, _}}, _, Tag, Message) -> is_tag(Tag, Alias);
+is_answer(_, _, _, _, _) -> false.
 
 %% What a client does when its answer has come.
 ending([#event{number = Number, who = Client, deed = {receives, {tuple, [Tag, Given]}}},

@@ -143,6 +143,7 @@ brought(Name, Message, Events) ->
 carries({brings, Message}, Message) -> true;
 carries({exit, _, {message, Message}}, Message) -> true;
 carries({down, _, {message, Message}}, Message) -> true;
+carries({_, _, _, {message, Message}}, Message) -> true;
 carries(_, _) -> false.
 
 of_end({down, _, _}, {tuple, [{atom, 'DOWN'}, _, _, {pid, From}, Reason]}, From, Name, Before) ->
@@ -166,8 +167,12 @@ left_over(Names, #{events := Events, waits := Waits}) ->
     Parents = lists:usort([proplists:get_value(Name, Began, none) || Name <- Names]),
     Ends = [End || Event <- Events, {ends, Name, _} = End <- report_story:shown(Event), lists:member(Name, Parents)],
     Idle = lists:all(fun(Name) -> lists:keyfind(Name, 1, Waits) =:= {Name, {list, [], nil}} end, Names),
-    Talk = [Event || #event{who = {From, To}, deed = {brings, _}} = Event <- Events, lists:member(From, Names), lists:member(To, Names)],
+    Talk = [Event || #event{who = {From, To}, deed = Deed} = Event <- Events, is_message(Deed), lists:member(From, Names), lists:member(To, Names)],
     case Idle andalso Talk =:= [] andalso length(Ends) =:= length(Parents) of
         true -> {{left, Parents}, Ends};
         false -> none
     end.
+
+is_message({brings, _}) -> true;
+is_message({alias, _, _, _}) -> true;
+is_message(_) -> false.

@@ -8,6 +8,8 @@ text(#event{who = Name, deed = Deed}, Thing) -> [Name, " ", does(Deed, Thing)].
 
 arrives(From, To, {brings, _}, _) -> ["a message of ", From, " arrives at ", To];
 arrives(From, To, {down, _, _}, _) -> ["the 'DOWN' of ", From, " arrives at ", To];
+arrives(From, To, {alias, _, _, _}, _) -> ["a message of ", From, " arrives at ", To];
+arrives(_, To, {timer, Timer, _, _}, _) -> ["the message of the timer ", report_term:text(Timer), " arrives at ", To];
 arrives(From, To, {exit, _, {ends, _}}, Thing) -> ["the exit signal of ", From, " ends ", To, with(Thing)];
 arrives(From, To, {exit, _, {message, _}}, _) -> ["the 'EXIT' of ", From, " arrives at ", To];
 arrives(From, To, {exit, _, _}, _) -> ["the exit signal of ", From, " arrives at ", To].
@@ -42,7 +44,7 @@ of_process(Send, [To, _], _) when Send =:= '!'; Send =:= send -> ["sends to ", T
 of_process(exit, [To, _], _) -> ["sends an exit signal to ", To];
 of_process(link, [To], _) -> ["links to ", To];
 of_process(unlink, [To], _) -> ["unlinks ", To];
-of_process(monitor, [_, To], _) -> ["watches ", To];
+of_process(monitor, [_, To | _], _) -> ["watches ", To];
 of_process(demonitor, [Reference | _], _) -> ["ends the watch ", Reference];
 of_process(process_flag, [_, "true"], _) -> "traps exits";
 of_process(process_flag, _, _) -> "traps no exits";
@@ -51,6 +53,12 @@ of_process(register, [Name | _], _) -> ["tries to register ", Name];
 of_process(unregister, [Name], _) -> ["frees the name ", Name];
 of_process(whereis, [Name], _) -> ["looks up ", Name];
 of_process(is_process_alive, [Name], _) -> ["asks whether ", Name, " lives"];
+of_process(unalias, [Alias], {ok, {atom, false}}) -> ["tries to end the alias ", Alias];
+of_process(unalias, [Alias], _) -> ["ends the alias ", Alias];
+of_process(Start, _, {ok, Timer}) when Start =:= start_timer; Start =:= send_after -> ["starts the timer ", report_term:text(Timer)];
+of_process(cancel_timer, [Timer], {ok, {atom, false}}) -> ["tries to cancel the timer ", Timer];
+of_process(cancel_timer, [Timer], _) -> ["cancels the timer ", Timer];
+of_process(read_timer, [Timer], _) -> ["reads the timer ", Timer];
 of_process(Spawn, _, {ok, {pid, Child}}) when Spawn =:= spawn; Spawn =:= spawn_link -> ["spawns ", Child];
 of_process(spawn_monitor, _, {ok, {tuple, [{pid, Child}, _]}}) -> ["spawns ", Child];
 of_process(Function, _, _) -> called(erlang, Function).

@@ -84,7 +84,7 @@ tried(Proposed, Course, {_, Replay, IsEnough} = How) ->
 steps(Course) -> [Who || #event{who = Who} <- events(Course)].
 
 %% The steps that are to be tried next. Those of processes that have ended are left out, and so is a first turn of one that waits.
-%% Where signals arrive at once, the first that is on its way is before all else.
+%% Where signals arrive at once, the first that is on its way is before all else, unless it is a timer's.
 proposed(Steps, #course{world = World, waiting = Waiting} = Course, {Delivery, _, _} = How) ->
     case [Step || Step <- Steps, not report_world:is_gone(receiver(Step), World)] of
         [Step | Rest] when not is_tuple(Step) ->
@@ -95,7 +95,11 @@ proposed(Steps, #course{world = World, waiting = Waiting} = Course, {Delivery, _
             end;
         [Step | Rest] when Delivery =:= at_once ->
             case first(World, Delivery) of
-                none -> proposed(Rest, Course, How);
+                none ->
+                    case lists:member(Step, report_world:arriving(World)) of
+                        true -> [Step | Rest];
+                        false -> proposed(Rest, Course, How)
+                    end;
                 Step -> [Step | Rest];
                 First -> [First | Rest]
             end;
@@ -107,7 +111,7 @@ receiver(Name) -> Name.
 
 %% The signal that has to be delivered now.
 first(World, at_once) ->
-    case report_world:arriving(World) of
+    case report_world:arriving_at_once(World) of
         [First | _] -> First;
         [] -> none
     end;

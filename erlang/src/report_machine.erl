@@ -60,6 +60,7 @@ names_of_deed({call, _, _, Arguments, {ok, Term}}) -> lists:flatmap(fun report_t
 names_of_deed({call, _, _, Arguments, _}) -> lists:flatmap(fun report_term:names/1, Arguments);
 names_of_deed({exit, Reason, _}) -> report_term:names(Reason);
 names_of_deed({down, Reference, {message, Term}}) -> report_term:names(Reference) ++ report_term:names(Term);
+names_of_deed({_, Reference, Term, _}) -> report_term:names(Reference) ++ report_term:names(Term);
 names_of_deed({_, Term}) -> report_term:names(Term);
 names_of_deed(_) -> [].
 

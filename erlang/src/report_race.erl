@@ -111,6 +111,7 @@ taken_by(#unit{events = Events}, #unit{events = [#event{number = Number, who = N
 
 brings({brings, Message}) -> Message;
 brings({_, _, {message, Message}}) -> Message;
+brings({_, _, _, {message, Message}}) -> Message;
 brings(_) -> none.
 
 %% A process that the first unit ends may do more before it: its next turn, which is in no run yet.
@@ -201,6 +202,7 @@ request({receives, _}) -> message;
 request(timeout) -> message;
 request({exit, Reason, _}) -> {exit, Reason};
 request({down, Reference, _}) -> {down, Reference};
+request({Kind, Reference, Message, _}) when Kind =:= alias; Kind =:= timer -> {Kind, Reference, Message};
 request(Deed) -> Deed.
 
 %% {without, Error}, where a run does not show the error, but another one that the run of the error does not show, or none; or else

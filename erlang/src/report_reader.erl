@@ -65,7 +65,9 @@ done({ends, Reason}) -> {ends, whole(Reason)};
 done(runs_away) -> runaway;
 done({brings, Message}) -> {brings, whole(Message)};
 done({exit, Reason, Fate}) -> {exit, whole(Reason), became(Fate)};
-done({down, Reference, Fate}) -> {down, whole(Reference), became(Fate)}.
+done({down, Reference, Fate}) -> {down, whole(Reference), became(Fate)};
+done({alias, Reference, Message, Fate}) -> {alias, whole(Reference), whole(Message), became(Fate)};
+done({timer, Reference, Message, Fate}) -> {timer, whole(Reference), whole(Message), became(Fate)}.
 
 called({call, Module, Function, Arguments}, Answer) -> {call, list_to_atom(Module), list_to_atom(Function), wholes(Arguments), Answer}.
 
@@ -99,7 +101,12 @@ deed("receives " ++ Text) -> {receives, whole(Text)};
 deed("times out") -> timeout;
 deed("ends " ++ Text) -> {ends, whole(Text)};
 deed("runs away") -> runaway;
-deed("brings " ++ Text) -> {brings, whole(Text)};
+deed("brings " ++ Text) ->
+    case report_term:read(Text) of
+        {Message, " by alias " ++ By} -> by(alias, Message, By);
+        {Message, " by timer " ++ By} -> by(timer, Message, By);
+        {Message, ""} -> {brings, Message}
+    end;
 deed("exit " ++ Text) ->
     {Reason, " -> " ++ Fate} = report_term:read(Text),
     {exit, Reason, fate(Fate)};
@@ -109,6 +116,13 @@ deed("down " ++ Text) ->
 deed(Text) ->
     {Module, Function, Arguments, " -> " ++ Answer} = call(Text),
     {call, Module, Function, Arguments, answer(Answer)}.
+
+%% A message by an alias or of a timer: what became of it is said where it did not come into the mailbox.
+by(Kind, Message, Text) ->
+    case report_term:read(Text) of
+        {Reference, ""} -> {Kind, Reference, Message, {message, Message}};
+        {Reference, " -> " ++ Fate} -> {Kind, Reference, Message, fate(Fate)}
+    end.
 
 fate("ends " ++ Text) -> {ends, whole(Text)};
 fate("ignored") -> ignored;

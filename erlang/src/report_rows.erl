@@ -11,6 +11,9 @@ rows(Finding, #{events := Events, places := Places} = Told) ->
                #event{number = Number} = Event <- Events],
     {report_story:processes(Events), last_marked(Finding, Rows ++ waiting(Finding, Told))}.
 
+%% (a timer has no column, and a message that a process sends to itself by an alias stays in one)
+row(#event{who = {_, _}, deed = {timer, _, _, _}} = Event, Place) -> from_none(Event, "the timer ", Place);
+row(#event{who = {To, To}, deed = {alias, _, _, _}} = Event, Place) -> from_none(Event, "the alias ", Place);
 row(#event{number = Number, who = {From, To}, deed = Deed}, Place) ->
     #row{number = Number, column = From, other = To, kind = arrow, text = text(Deed), mark = delivered(Deed),
          place = Place};
@@ -21,10 +24,16 @@ row(#event{number = Number, who = Name, deed = {call, erlang, Spawn, _, {ok, Ans
 row(#event{number = Number, who = Name, deed = Deed}, Place) ->
     #row{number = Number, column = Name, kind = turn, text = text(Deed), mark = mark(Deed), place = Place}.
 
+%% A message that comes from no other column. Where it is dropped, its text says what sent it.
+from_none(#event{number = Number, who = {_, To}, deed = {_, Reference, _, Fate} = Deed}, What, Place) ->
+    Text = [[[What, report_term:text(Reference), " "] || Fate =/= dropped], report_text:deed(Deed)],
+    #row{number = Number, column = To, kind = turn, text = flat(Text), mark = plain, place = Place}.
+
 %% An arrow has the message that arrives, as far as one does.
 text({brings, Term}) -> flat(report_term:text(Term));
 text({exit, _, {message, Term}}) -> flat(report_term:text(Term));
 text({down, _, {message, Term}}) -> flat(report_term:text(Term));
+text({alias, _, Term, {message, _}}) -> flat(report_term:text(Term));
 text(Deed) -> flat(report_text:deed(Deed)).
 
 flat(Text) -> lists:flatten(Text).
@@ -39,6 +48,7 @@ mark(_) -> plain.
 
 %% A delivery that ends its receiver ends its column.
 delivered({brings, _}) -> message;
+delivered({alias, _, _, {message, _}}) -> message;
 delivered(Deed) when is_tuple(Deed) ->
     case element(tuple_size(Deed), Deed) of
         {ends, _} -> ends;

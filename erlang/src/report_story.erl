@@ -1,13 +1,14 @@
 %% What a transcript says beyond its lines: what each process is, and which send a delivery comes from.
 -module(report_story).
--export([processes/1, roles/2, places/2, sources/1, schedule/1, schedule_of/1, earlier/3, shown/1, spawned/1, limit/1, timeouts/1]).
+-export([processes/1, timers/1, roles/2, places/2, sources/1, schedule/1, schedule_of/1, earlier/3, shown/1, spawned/1, limit/1, timeouts/1]).
 -include("report.hrl").
 
-%% The names of the processes, in the order in which they appear.
+%% The names of the processes, in the order in which they appear. A timer is none.
 processes(Events) ->
     lists:foldl(fun(Name, Names) -> case lists:member(Name, Names) of true -> Names; false -> Names ++ [Name] end end,
                 ["P"], lists:flatmap(fun appearing/1, Events)).
 
+appearing(#event{who = {_, To}, deed = {timer, _, _, _}}) -> [To];
 appearing(#event{who = {From, To}}) -> [From, To];
 appearing(#event{who = Name} = Event) -> [Name | [Child || {Child, _} <- spawned(Event)]].
 
@@ -20,6 +21,11 @@ spawned(_) -> [].
 
 %% What each process runs; that of the first one is given.
 roles(Events, First) -> maps:from_list([{"P", First} | lists:flatmap(fun spawned/1, Events)]).
+
+%% The senders that are timers, in the order in which their messages are delivered.
+timers(Events) ->
+    Names = [From || #event{who = {From, _}, deed = {timer, _, _, _}} <- Events],
+    lists:uniq(Names).
 
 schedule(Events) -> schedule_of([Who || #event{who = Who} <- Events]).
 
@@ -71,8 +77,8 @@ timeouts(#{times := Times, places := Places}) ->
 
 %% ---- deliveries
 
-%% The places of all events, where those of turns are known: a delivery has that of the send, of the exit/2 or of the
-%% end that it comes from. Nothing is said of the signal of a watch.
+%% The places of all events, where those of turns are known: a delivery has that of the send, of the exit/2, of the end or of
+%% the timer that it comes from. Nothing is said of the signal of a watch.
 places(Events, Lines) ->
     Sources = sources(Events),
     lists:foldl(fun(Event, Places) -> place(Event, Places, Sources) end, Lines, Events).
@@ -102,6 +108,8 @@ source(#event{number = Number, who = Name, deed = Deed} = Event, {Sources, Sent,
 
 %% An end may send to several others, a send to one.
 source_of(From, _, {brings, Message}, Sent, _) -> taken({From, Message}, Sent);
+source_of(From, _, {alias, Reference, _, _}, Sent, _) -> taken({From, alias, Reference}, Sent);
+source_of(_, _, {timer, Reference, _, _}, Sent, _) -> taken({timer, Reference}, Sent);
 source_of(From, To, {exit, Reason, _}, Sent, Ended) ->
     case taken({From, exit, To, Reason}, Sent) of
         {none, _} -> {end_of(From, Reason, Ended), Sent};
@@ -125,7 +133,9 @@ end_of(Name, Reason, Ended) ->
         _ -> none
     end.
 
-%% What a turn sends to others, beside its end.
+%% What a turn sends to others, beside its end. A timer sends by itself.
+sends(Name, {call, erlang, Send, [{ref, _} = Reference, _], {ok, _}}) when Send =:= '!'; Send =:= send -> [{Name, alias, Reference}];
+sends(_, {call, erlang, Start, _, {ok, Timer}}) when Start =:= start_timer; Start =:= send_after -> [{timer, Timer}];
 sends(Name, {call, erlang, Send, [To, Message], {ok, _}}) when Send =:= '!'; Send =:= send ->
     [{Name, Message} || To =/= {pid, Name}];
 sends(Name, {call, erlang, exit, [{pid, To}, Reason], {ok, _}}) -> [{Name, exit, To, Reason}];

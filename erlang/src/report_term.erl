@@ -58,8 +58,6 @@ escaped(C) -> C.
 %% The text that a programmer would write: atoms with quotes only where they need them, strings, functions as values by
 %% their names, maps, binaries.
 text({int, N}) -> integer_to_list(N);
-%% (the tag of a call with a time: src/late_replies.erl)
-text({atom, 'alias of a call'}) -> "alias";
 text({atom, A}) -> lists:flatten(io_lib:format("~tw", [A]));
 text({pid, Name}) -> Name;
 text({ref, Name}) -> Name;

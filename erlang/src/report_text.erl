@@ -58,11 +58,14 @@ deed(runaway) -> "runs away";
 deed({brings, Term}) -> ["brings ", report_term:text(Term)];
 deed({exit, _, {message, Term}}) -> deed({brings, Term});
 deed({down, _, {message, Term}}) -> deed({brings, Term});
+deed({Kind, _, Term, {message, _}}) when Kind =:= alias; Kind =:= timer -> deed({brings, Term});
 deed({exit, Reason, Fate}) -> ["exit signal ", report_term:text(Reason), " -> ", fate(Fate)];
-deed({down, Reference, Fate}) -> ["signal of the watch ", report_term:text(Reference), " -> ", fate(Fate)].
+deed({down, Reference, Fate}) -> ["signal of the watch ", report_term:text(Reference), " -> ", fate(Fate)];
+deed({alias, Alias, Term, dropped}) -> [deed({brings, Term}), " -> dropped: the alias ", report_term:text(Alias), " has ended"];
+deed({timer, Timer, Term, dropped}) -> [deed({brings, Term}), " -> dropped: the timer ", report_term:text(Timer), " was cancelled"].
 
 %% The answer of a send is its message, and says nothing new.
-answer('!', {ok, _}) -> "";
+answer(Send, {ok, _}) when Send =:= '!'; Send =:= send -> "";
 answer(_, {ok, Term}) -> [" -> ", report_term:text(Term)];
 answer(_, {refused, Text}) -> [" -> ", Text];
 answer(_, {ends, Reason}) -> [" -> ends ", report_term:text(Reason)].
@@ -278,8 +281,9 @@ waiters({Kind, Names}) when Kind =:= deadlock; Kind =:= unread_messages -> Names
 waiters(_) -> ["P"].
 
 cast(#{events := Events, roles := Roles}) ->
-    Names = [Name || Name <- report_story:processes(Events), maps:is_key(Name, Roles)],
-    ["  where ", lists:join(", ", [[Name, " is ", maps:get(Name, Roles)] || Name <- Names]), "\n"].
+    Processes = [[Name, " is ", maps:get(Name, Roles)] || Name <- report_story:processes(Events), maps:is_key(Name, Roles)],
+    Timers = [[Name, " is the timer #", Name] || Name <- report_story:timers(Events)],
+    ["  where ", lists:join(", ", Processes ++ Timers), "\n"].
 
 %% Numbers and names are in columns of these widths.
 event(One, {Counted, Width}, Places) ->

@@ -10,13 +10,17 @@
 %%   {name, Name}        who holds it
 %%   {mail, Process}     what came into its mailbox
 %%   {trap, Process}     whether it traps exits
-%%   {bond, Which}       a link of two processes, or a watch
+%%   {bond, Which}       a link of two processes, or a watch, an alias or a timer, by its reference
 %%   {life, Process}     whether it lives
 things(#event{who = {From, To}, deed = Deed}, World) -> delivered(From, To, Deed, World);
 things(#event{who = Name, deed = Deed}, World) -> [{{life, Name}, read} | done(Name, Deed, World)].
 
 delivered(_, To, {brings, _}, _) -> [{{mail, To}, write}];
-delivered(_, To, {down, Reference, Fate}, _) -> [{{bond, Reference}, read} | arrived(To, Fate)];
+delivered(_, To, {down, Reference, Fate}, _) -> [{{bond, Reference}, write} | arrived(To, Fate)];
+delivered(_, To, {alias, {ref, Name} = Reference, _, Fate}, World) ->
+    %% (where a message ends the alias, no other one comes in)
+    [{{bond, Reference}, case report_world:alias_end(Name, World) of reply -> write; _ -> read end} | arrived(To, Fate)];
+delivered(_, To, {timer, Reference, _, Fate}, _) -> [{{bond, Reference}, write} | arrived(To, Fate)];
 delivered(From, To, {exit, _, {ends, _}}, World) -> [{{trap, To}, read}, {{bond, bond(From, To)}, read} | ended(To, World)];
 delivered(From, To, {exit, _, Fate}, _) -> [{{trap, To}, read}, {{bond, bond(From, To)}, read} | arrived(To, Fate)].
 
@@ -43,19 +47,30 @@ done(_, _, _) -> [].
 of_process(Send, [{pid, To}, _], _, Name, World) when To =/= Name, Send =:= '!' orelse Send =:= send ->
     %% (a message for a process that has ended might have arrived before)
     [{{life, To}, read} | [{{mail, To}, write} || report_world:is_gone(To, World)]];
+of_process(Send, [{ref, Name} = Reference, _], _, _, World) when Send =:= '!'; Send =:= send ->
+    [{{bond, Reference}, read} | by_alias(report_world:alias_end(Name, World), report_world:maker(Name), World)];
 of_process(exit, [{pid, To}, _], _, _, _) -> [{{life, To}, read}];
 of_process(Send, [{atom, Held}, _], _, _, World) when Send =:= '!'; Send =:= send ->
     [{{name, Held}, read} | [{{life, To}, read} || To <- [report_world:holder(Held, World)], To =/= none]];
 of_process(link, [{pid, To}], _, Name, _) -> [{{life, To}, read}, {{bond, bond(Name, To)}, write}];
 of_process(unlink, [{pid, To}], _, Name, _) -> [{{bond, bond(Name, To)}, write}];
-of_process(monitor, [_, {pid, To}], _, _, _) -> [{{life, To}, read}];
+of_process(monitor, [_, {pid, To} | _], _, _, _) -> [{{life, To}, read}];
 of_process(demonitor, [Reference | _], _, _, _) -> [{{bond, Reference}, write}];
 of_process(process_flag, _, _, Name, _) -> [{{trap, Name}, write}];
 of_process(register, [{atom, Held}, {pid, To}], Answer, _, _) -> [{{name, Held}, access(Answer)}, {{life, To}, read}];
 of_process(unregister, [{atom, Held}], Answer, _, _) -> [{{name, Held}, access(Answer)}];
 of_process(whereis, [{atom, Held}], _, _, _) -> [{{name, Held}, read}];
 of_process(is_process_alive, [{pid, To}], _, _, _) -> [{{life, To}, read}];
+of_process(unalias, [Reference], _, _, _) -> [{{bond, Reference}, write}];
+of_process(Start, [_, {pid, To}, _], _, _, _) when Start =:= start_timer; Start =:= send_after -> [{{life, To}, read}];
+of_process(cancel_timer, [Reference], _, _, _) -> [{{bond, Reference}, write}];
+of_process(read_timer, [Reference], _, _, _) -> [{{bond, Reference}, read}];
 of_process(_, _, _, _, _) -> [].
+
+%% What a message to a reference has to do with the process whose alias it is, or was. Where the alias or the process has ended, the
+%% message might have arrived before.
+by_alias(none, _, _) -> [];
+by_alias(How, To, World) -> [{{life, To}, read} | [{{mail, To}, write} || How =:= ended orelse report_world:is_gone(To, World)]].
 
 %% A call that is refused changes nothing.
 access({ok, _}) -> write;

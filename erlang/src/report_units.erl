@@ -20,9 +20,10 @@ units(Events, Delivery) ->
     Found.
 
 grouped([], _) -> [];
-grouped([Turn | Events], at_once) ->
-    {Deliveries, Left} = lists:splitwith(fun(#event{who = Who}) -> is_tuple(Who) end, Events),
-    [[Turn | Deliveries] | grouped(Left, at_once)];
+%% (the message of a timer comes when it comes)
+grouped([First | Events], at_once) ->
+    {Deliveries, Left} = lists:splitwith(fun(#event{who = Who, deed = Deed}) -> is_tuple(Who) andalso element(1, Deed) =/= timer end, Events),
+    [[First | Deliveries] | grouped(Left, at_once)];
 grouped(Events, any_delay) -> [[Event] || Event <- Events].
 
 %% The step that a unit begins with, and all its steps.
@@ -70,6 +71,7 @@ mail(_, Found) -> Found.
 
 message({brings, Message}) -> [Message];
 message({_, _, {message, Message}}) -> [Message];
+message({_, _, _, {message, Message}}) -> [Message];
 message(_) -> [].
 
 %% The places after Place of the units that have to come before those that are needed, with these, in their order.

@@ -3,7 +3,7 @@
 %% It is kept as docs/PROCESSES.md has it, as far as it tells which deliveries come next. Nobody believes it: the program
 %% replays each schedule that is made with it, and refuses a step that is not enabled.
 -module(report_world).
--export([new/0, after_event/2, living/1, is_gone/2, arriving/1, holder/2, names/2, tables/2, key_place/2]).
+-export([new/0, after_event/2, living/1, is_gone/2, arriving/1, arriving_at_once/1, holder/2, names/2, tables/2, key_place/2, maker/1, alias_end/2]).
 -include("report.hrl").
 
 -record(world, {
@@ -12,6 +12,8 @@
     ways = #{},       % how many signals are on their way from one to another, by {From, To}
     links = [],       % who is linked to whom, each pair once, in order
     watches = [],     % the watches, {Reference, Watcher, Watched}
+    aliases = #{},    % the references that are aliases, and how each ends: explicit_unalias, demonitor or reply; or `ended`
+    timers = [],      % the senders that are timers
     names = [],       % who holds which name, {Name, Holder}
     tables = [],      % the tables, {Table, Owner, Heir}
     places = #{}      % which element of its objects is the key of a table, where that is not the first
@@ -27,7 +29,16 @@ is_gone(Name, #world{gone = Gone}) -> lists:member(Name, Gone).
 arriving(#world{ways = Ways}) ->
     [Way || {_, Way} <- lists:sort([{{path(From), path(To)}, {From, To}} || {From, To} <- maps:keys(Ways)])].
 
+%% Those of signals that may not stay on their way where signals arrive at once. A timer's message comes when it comes.
+arriving_at_once(#world{timers = Timers} = World) -> [Way || {From, _} = Way <- arriving(World), not lists:member(From, Timers)].
+
 path(Name) -> [list_to_integer(Part) || Part <- tl(string:split(Name, ".", all))].
+
+%% The process that made a reference.
+maker("#" ++ Name) -> lists:append(lists:join(".", lists:droplast(string:split(Name, ".", all)))).
+
+%% How an alias ends, as explicit_unalias, demonitor or reply; `ended` where it has, and none of another reference.
+alias_end(Reference, #world{aliases = Aliases}) -> maps:get(Reference, Aliases, none).
 
 %% Who holds a name, or none.
 holder(Name, #world{names = Names}) -> proplists:get_value(Name, Names, none).
@@ -61,6 +72,7 @@ settled(From, To, {exit, _, _}, #world{links = Links} = World) ->
         false -> World
     end;
 settled(_, _, {down, {ref, Reference}, _}, World) -> unwatched(Reference, World);
+settled(_, _, {alias, {ref, Reference}, _, {message, _}}, World) -> passed_in(Reference, World);
 settled(_, _, _, World) -> World.
 
 served(erlang, Spawn, _, {pid, Child}, Name, World) when Spawn =:= spawn; Spawn =:= spawn_link ->
@@ -70,12 +82,19 @@ served(erlang, Spawn, _, {pid, Child}, Name, World) when Spawn =:= spawn; Spawn 
         spawn -> Begun
     end;
 served(erlang, spawn_monitor, _, {tuple, [{pid, Child}, {ref, Reference}]}, Name, World) -> watched(Reference, Name, Child, begun(Child, World));
+served(erlang, Send, [{ref, Reference}, _], _, Name, World) when Send =:= '!'; Send =:= send ->
+    case alias_end(Reference, World) of
+        How when How =:= none; How =:= ended -> World;
+        _ -> put_on(Name, maker(Reference), World)
+    end;
 served(erlang, Send, [To, _], _, Name, World) when Send =:= '!'; Send =:= send ->
     case receiver(To, World) of
         Name -> World;
         Receiver -> put_on(Name, Receiver, World)
     end;
 served(erlang, exit, [{pid, To}, _], _, Name, World) when To =/= Name -> put_on(Name, To, World);
+served(erlang, Start, [_, {pid, To}, _], {ref, "#" ++ Timer}, _, #world{timers = Timers} = World) when Start =:= start_timer; Start =:= send_after ->
+    put_on(Timer, To, World#world{timers = [Timer | Timers]});
 served(erlang, link, [{pid, To}], _, Name, #world{links = Links} = World) when To =/= Name ->
     case {lists:member(pair(Name, To), Links), is_gone(To, World)} of
         {true, _} -> World;
@@ -83,13 +102,19 @@ served(erlang, link, [{pid, To}], _, Name, #world{links = Links} = World) when T
         {false, true} -> put_on(To, Name, linked(Name, To, World))
     end;
 served(erlang, unlink, [{pid, To}], _, Name, #world{links = Links} = World) -> World#world{links = lists:delete(pair(Name, To), Links)};
-served(erlang, monitor, [_, {pid, To}], {ref, Reference}, Name, World) when To =/= Name ->
-    Watched = watched(Reference, Name, To, World),
+served(erlang, monitor, [_, {pid, To} | Options], {ref, Reference}, Name, World) when To =/= Name ->
+    Watched = aliased(Reference, how(Options, none), watched(Reference, Name, To, World)),
     case is_gone(To, World) of
         true -> put_on(To, Name, Watched);
         false -> Watched
     end;
-served(erlang, demonitor, [{ref, Reference} | _], _, _, World) -> unwatched(Reference, World);
+served(erlang, demonitor, [{ref, Reference} | _], _, Name, World) ->
+    case maker(Reference) of
+        Name -> unwatched(Reference, World);
+        _ -> World
+    end;
+served(erlang, alias, Options, {ref, Reference}, _, World) -> aliased(Reference, how(Options, explicit_unalias), World);
+served(erlang, unalias, [{ref, Reference}], {atom, true}, _, World) -> unaliased(Reference, World);
 served(erlang, register, [{atom, Held}, {pid, Holder}], _, _, #world{names = Names} = World) -> World#world{names = [{Held, Holder} | Names]};
 served(erlang, unregister, [{atom, Held}], _, _, #world{names = Names} = World) -> World#world{names = lists:keydelete(Held, 1, Names)};
 served(ets, new, [_, {list, Options, nil} = All], Table, Name, #world{tables = Tables, places = Places} = World) ->
@@ -120,7 +145,33 @@ pair(Name, Other) -> {min(Name, Other), max(Name, Other)}.
 
 watched(Reference, Watcher, Watched, #world{watches = Watches} = World) -> World#world{watches = Watches ++ [{Reference, Watcher, Watched}]}.
 
-unwatched(Reference, #world{watches = Watches} = World) -> World#world{watches = lists:keydelete(Reference, 1, Watches)}.
+%% With a watch ends an alias that was made with it, unless unalias/1 alone ends that.
+unwatched(Reference, #world{watches = Watches} = World) ->
+    Unwatched = World#world{watches = lists:keydelete(Reference, 1, Watches)},
+    case lists:keymember(Reference, 1, Watches) andalso alias_end(Reference, World) of
+        How when How =:= false; How =:= none; How =:= explicit_unalias -> Unwatched;
+        _ -> unaliased(Reference, Unwatched)
+    end.
+
+aliased(_, none, World) -> World;
+aliased(Reference, How, #world{aliases = Aliases} = World) -> World#world{aliases = Aliases#{Reference => How}}.
+
+%% How an alias ends, as the last of its options says it; Else where none does.
+how([], Else) -> Else;
+how([{list, Options, _}], Else) -> lists:last([Else | [end_of(Option) || Option <- Options]]).
+
+end_of({tuple, [{atom, alias}, How]}) -> end_of(How);
+end_of({atom, reply_demonitor}) -> reply;
+end_of({atom, How}) -> How.
+
+unaliased(Reference, #world{aliases = Aliases} = World) -> World#world{aliases = Aliases#{Reference := ended}}.
+
+%% A message came through an alias, which may end it, and its watch with it.
+passed_in(Reference, World) ->
+    case alias_end(Reference, World) of
+        reply -> unaliased(Reference, unwatched(Reference, World));
+        _ -> World
+    end.
 
 %% A signal is put on its way to a process that lives.
 put_on(From, To, #world{living = Living, ways = Ways} = World) ->

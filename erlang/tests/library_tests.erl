@@ -31,7 +31,7 @@ is_of_library(F) ->
                                        "application", "map pattern", "binary pattern", "binary segment", "flag without effect",
                                        "flag that is computed", "spawn options", "fixed table", "bag", "counters", "atomics"])
                       andalso not lists:member(F, ['ets:whereis', 'ets:match_spec_compile', 'ets:match_spec_run', 'ets:is_compiled_ms',
-                                                   'ets:test_ms', 'erlang:send_after', 'erlang:start_timer', 'erlang:cancel_timer',
+                                                   'ets:test_ms', 'erlang:send_after', 'erlang:start_timer', 'erlang:cancel_timer', 'erlang:read_timer',
                                                    'erlang:spawn', 'erlang:spawn_link', 'erlang:spawn_monitor',
                                                    'erlang:hibernate', 'erlang:monitor_node', 'erlang:process_info', 'erlang:unique_integer',
                                                    'timer:send_after', 'timer:send_interval', 'timer:apply_after',

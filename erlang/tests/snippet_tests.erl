@@ -2,7 +2,7 @@
 %% real machine and in the explorer.
 -module(snippet_tests).
 
--export([all/4, one/3]).
+-export([all/4, one/3, load/1, ended/2]).
 
 all(Program, Here, Folder, Library) ->
     %% the server of timers stays when what a piece left behind is ended
@@ -17,7 +17,7 @@ same(Words, Lines, {Program, Folder, Library}) ->
     File = filename:join(Folder, "snippet.erl"),
     Main = "main() -> exit({result, run()}).",
     ok = file:write_file(File, unicode:characters_to_binary(blocks:module("snippet", Lines ++ [Main]))),
-    Real = "P ends " ++ real_terms:text(real(File)),
+    Real = "P ends " ++ real_terms:text(ended(load(File), main)),
     case converter:run([File | Words], Library) of
         {0, Text, _} ->
             Report = explorer:explore(Program, Folder, Text, 60),
@@ -35,12 +35,16 @@ compared(Same, Same, Text) ->
     end;
 compared(Real, Found, _) -> {failed, {real, Real, found, Found}}.
 
-real(File) ->
+load(File) ->
     {ok, Module, Code} = compile:file(File, [binary]),
     code:purge(Module),
     {module, Module} = code:load_binary(Module, File, Code),
+    Module.
+
+%% How a function of a module ends.
+ended(Module, Function) ->
     Before = processes(),
-    {Pid, Ref} = spawn_monitor(fun() -> group_leader(quiet_device:start(), self()), Module:main() end),
+    {Pid, Ref} = spawn_monitor(fun() -> group_leader(quiet_device:start(), self()), Module:Function() end),
     Reason = receive {'DOWN', Ref, process, Pid, R} -> R after 3000 -> waits end,
     clear(processes() -- Before),
     Reason.

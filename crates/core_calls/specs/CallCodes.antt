@@ -2,7 +2,7 @@
 use Rattle.std.specs.Prelude.{◌≡◌, ℕ, get_or, refl}
 use Rattle.std.specs.Coded.{Coded, code_by, coded_ℕ}
 use Rattle.core_calls.specs.declared.call.CallKind.{CallKind}
-use Rattle.core_calls.specs.declared.call.CallKind.TheVariants.{Spawn, SpawnLink, SpawnMonitor, Bang, Send, Exit, Link, Unlink, Monitor, Demonitor, DemonitorWith, ProcessFlag, Register, Unregister, Whereis, IsProcessAlive, MakeRef, New, Lookup, Member, LookupElement, First, Last, Next, Prev, TableToList, Insert, InsertNew, DeleteTable, DeleteKey, DeleteObject, DeleteAllObjects, Take, UpdateCounter, UpdateElement, GiveAway, SetOptions, Info}
+use Rattle.core_calls.specs.declared.call.CallKind.TheVariants.{Spawn, SpawnLink, SpawnMonitor, Bang, Send, Exit, Link, Unlink, Monitor, Demonitor, DemonitorWith, ProcessFlag, Register, Unregister, Whereis, IsProcessAlive, MakeRef, MonitorWith, Alias, AliasWith, Unalias, StartTimer, SendAfter, CancelTimer, ReadTimer, New, Lookup, Member, LookupElement, First, Last, Next, Prev, TableToList, Insert, InsertNew, DeleteTable, DeleteKey, DeleteObject, DeleteAllObjects, Take, UpdateCounter, UpdateElement, GiveAway, SetOptions, Info}
 use Rattle.core_calls.specs.Calls as world
 use Rattle.core_calls.specs.declared.pure.PureCall.{PureCall}
 use Rattle.core_calls.specs.declared.pure.PureCall.TheVariants as calls
@@ -27,27 +27,35 @@ number_of_call Unregister = 13
 number_of_call Whereis = 14
 number_of_call IsProcessAlive = 15
 number_of_call MakeRef = 16
-number_of_call New = 17
-number_of_call Lookup = 18
-number_of_call Member = 19
-number_of_call LookupElement = 20
-number_of_call First = 21
-number_of_call Last = 22
-number_of_call Next = 23
-number_of_call Prev = 24
-number_of_call TableToList = 25
-number_of_call Insert = 26
-number_of_call InsertNew = 27
-number_of_call DeleteTable = 28
-number_of_call DeleteKey = 29
-number_of_call DeleteObject = 30
-number_of_call DeleteAllObjects = 31
-number_of_call Take = 32
-number_of_call UpdateCounter = 33
-number_of_call UpdateElement = 34
-number_of_call GiveAway = 35
-number_of_call SetOptions = 36
-number_of_call Info = 37
+number_of_call MonitorWith = 17
+number_of_call Alias = 18
+number_of_call AliasWith = 19
+number_of_call Unalias = 20
+number_of_call StartTimer = 21
+number_of_call SendAfter = 22
+number_of_call CancelTimer = 23
+number_of_call ReadTimer = 24
+number_of_call New = 25
+number_of_call Lookup = 26
+number_of_call Member = 27
+number_of_call LookupElement = 28
+number_of_call First = 29
+number_of_call Last = 30
+number_of_call Next = 31
+number_of_call Prev = 32
+number_of_call TableToList = 33
+number_of_call Insert = 34
+number_of_call InsertNew = 35
+number_of_call DeleteTable = 36
+number_of_call DeleteKey = 37
+number_of_call DeleteObject = 38
+number_of_call DeleteAllObjects = 39
+number_of_call Take = 40
+number_of_call UpdateCounter = 41
+number_of_call UpdateElement = 42
+number_of_call GiveAway = 43
+number_of_call SetOptions = 44
+number_of_call Info = 45
 
 abbrev pub call_of_number : ℕ → CallKind
 call_of_number n = get_or world.calls n Spawn
@@ -70,6 +78,14 @@ call_of_number-number_of_call Unregister = refl
 call_of_number-number_of_call Whereis = refl
 call_of_number-number_of_call IsProcessAlive = refl
 call_of_number-number_of_call MakeRef = refl
+call_of_number-number_of_call MonitorWith = refl
+call_of_number-number_of_call Alias = refl
+call_of_number-number_of_call AliasWith = refl
+call_of_number-number_of_call Unalias = refl
+call_of_number-number_of_call StartTimer = refl
+call_of_number-number_of_call SendAfter = refl
+call_of_number-number_of_call CancelTimer = refl
+call_of_number-number_of_call ReadTimer = refl
 call_of_number-number_of_call New = refl
 call_of_number-number_of_call Lookup = refl
 call_of_number-number_of_call Member = refl

@@ -2,7 +2,7 @@
 use Rattle.std.specs.Prelude.{ℕ, Bool, ◌==◌, ◌&&◌, if◌then◌else◌, List, [], ◌∷◌, Option, Some, None, codes}
 use Rattle.std.specs.Cmp.Lexicographic.{pointwise}
 use Rattle.core_calls.specs.declared.call.CallKind.{CallKind}
-use Rattle.core_calls.specs.declared.call.CallKind.TheVariants.{Spawn, SpawnLink, SpawnMonitor, Bang, Send, Exit, Link, Unlink, Monitor, Demonitor, DemonitorWith, ProcessFlag, Register, Unregister, Whereis, IsProcessAlive, MakeRef, New, Lookup, Member, LookupElement, First, Last, Next, Prev, TableToList, Insert, InsertNew, DeleteTable, DeleteKey, DeleteObject, DeleteAllObjects, Take, UpdateCounter, UpdateElement, GiveAway, SetOptions, Info}
+use Rattle.core_calls.specs.declared.call.CallKind.TheVariants.{Spawn, SpawnLink, SpawnMonitor, Bang, Send, Exit, Link, Unlink, Monitor, Demonitor, DemonitorWith, ProcessFlag, Register, Unregister, Whereis, IsProcessAlive, MakeRef, MonitorWith, Alias, AliasWith, Unalias, StartTimer, SendAfter, CancelTimer, ReadTimer, New, Lookup, Member, LookupElement, First, Last, Next, Prev, TableToList, Insert, InsertNew, DeleteTable, DeleteKey, DeleteObject, DeleteAllObjects, Take, UpdateCounter, UpdateElement, GiveAway, SetOptions, Info}
 
 -- the name of a call's module and function, and the number of its arguments
 pub record Signature : Type 0 where
@@ -35,6 +35,14 @@ signature Unregister = process_call (codes "unregister") 1
 signature Whereis = process_call (codes "whereis") 1
 signature IsProcessAlive = process_call (codes "is_process_alive") 1
 signature MakeRef = process_call (codes "make_ref") 0
+signature MonitorWith = process_call (codes "monitor") 3
+signature Alias = process_call (codes "alias") 0
+signature AliasWith = process_call (codes "alias") 1
+signature Unalias = process_call (codes "unalias") 1
+signature StartTimer = process_call (codes "start_timer") 3
+signature SendAfter = process_call (codes "send_after") 3
+signature CancelTimer = process_call (codes "cancel_timer") 1
+signature ReadTimer = process_call (codes "read_timer") 1
 signature New = table_call (codes "new") 2
 signature Lookup = table_call (codes "lookup") 2
 signature Member = table_call (codes "member") 2
@@ -59,7 +67,7 @@ signature Info = table_call (codes "info") 2
 
 -- all of the calls, each once
 abbrev pub calls : List CallKind
-calls = Spawn ∷ SpawnLink ∷ SpawnMonitor ∷ Bang ∷ Send ∷ Exit ∷ Link ∷ Unlink ∷ Monitor ∷ Demonitor ∷ DemonitorWith ∷ ProcessFlag ∷ Register ∷ Unregister ∷ Whereis ∷ IsProcessAlive ∷ MakeRef ∷ New ∷ Lookup ∷ Member ∷ LookupElement ∷ First ∷ Last ∷ Next ∷ Prev ∷ TableToList ∷ Insert ∷ InsertNew ∷ DeleteTable ∷ DeleteKey ∷ DeleteObject ∷ DeleteAllObjects ∷ Take ∷ UpdateCounter ∷ UpdateElement ∷ GiveAway ∷ SetOptions ∷ Info ∷ []
+calls = Spawn ∷ SpawnLink ∷ SpawnMonitor ∷ Bang ∷ Send ∷ Exit ∷ Link ∷ Unlink ∷ Monitor ∷ Demonitor ∷ DemonitorWith ∷ ProcessFlag ∷ Register ∷ Unregister ∷ Whereis ∷ IsProcessAlive ∷ MakeRef ∷ MonitorWith ∷ Alias ∷ AliasWith ∷ Unalias ∷ StartTimer ∷ SendAfter ∷ CancelTimer ∷ ReadTimer ∷ New ∷ Lookup ∷ Member ∷ LookupElement ∷ First ∷ Last ∷ Next ∷ Prev ∷ TableToList ∷ Insert ∷ InsertNew ∷ DeleteTable ∷ DeleteKey ∷ DeleteObject ∷ DeleteAllObjects ∷ Take ∷ UpdateCounter ∷ UpdateElement ∷ GiveAway ∷ SetOptions ∷ Info ∷ []
 
 -- ---- calls by name
 

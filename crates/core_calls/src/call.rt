@@ -43,6 +43,22 @@ pub enum CallKind {
     IsProcessAlive,
     /// `erlang:make_ref/0`: a new reference.
     MakeRef,
+    /// `erlang:monitor/3`: watches a process, with an alias of the caller.
+    MonitorWith,
+    /// `erlang:alias/0`: makes an alias of the caller.
+    Alias,
+    /// `erlang:alias/1`: makes an alias of the caller, with options.
+    AliasWith,
+    /// `erlang:unalias/1`: ends an alias of the caller.
+    Unalias,
+    /// `erlang:start_timer/3`: starts a timer, which sends a message that names it.
+    StartTimer,
+    /// `erlang:send_after/3`: starts a timer, which sends a message as it is.
+    SendAfter,
+    /// `erlang:cancel_timer/1`: ends a timer.
+    CancelTimer,
+    /// `erlang:read_timer/1`: how long a timer has to run.
+    ReadTimer,
     /// `ets:new/2`: makes a table.
     New,
     /// `ets:lookup/2`: the objects under a key.
@@ -88,7 +104,7 @@ pub enum CallKind {
 }
 
 /// Each of the calls once.
-pub const CALLS: [CallKind; 38] = [
+pub const CALLS: [CallKind; 46] = [
     CallKind::Spawn,
     CallKind::SpawnLink,
     CallKind::SpawnMonitor,
@@ -106,6 +122,14 @@ pub const CALLS: [CallKind; 38] = [
     CallKind::Whereis,
     CallKind::IsProcessAlive,
     CallKind::MakeRef,
+    CallKind::MonitorWith,
+    CallKind::Alias,
+    CallKind::AliasWith,
+    CallKind::Unalias,
+    CallKind::StartTimer,
+    CallKind::SendAfter,
+    CallKind::CancelTimer,
+    CallKind::ReadTimer,
     CallKind::New,
     CallKind::Lookup,
     CallKind::Member,
@@ -152,6 +176,14 @@ impl CallKind {
             CallKind::Whereis => process_call("whereis", 1),
             CallKind::IsProcessAlive => process_call("is_process_alive", 1),
             CallKind::MakeRef => process_call("make_ref", 0),
+            CallKind::MonitorWith => process_call("monitor", 3),
+            CallKind::Alias => process_call("alias", 0),
+            CallKind::AliasWith => process_call("alias", 1),
+            CallKind::Unalias => process_call("unalias", 1),
+            CallKind::StartTimer => process_call("start_timer", 3),
+            CallKind::SendAfter => process_call("send_after", 3),
+            CallKind::CancelTimer => process_call("cancel_timer", 1),
+            CallKind::ReadTimer => process_call("read_timer", 1),
             CallKind::New => table_call("new", 2),
             CallKind::Lookup => table_call("lookup", 2),
             CallKind::Member => table_call("member", 2),

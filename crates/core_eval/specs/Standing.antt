@@ -4,7 +4,7 @@ use Rattle.std.specs.Coded.{Coded, code_by, coded×, coded_list, coded_ℕ, code
 use Rattle.core_tree.specs.Syntax.{ModuleTree}
 use Rattle.core_tree.specs.inside.SyntaxCodes.{coded_module}
 use Rattle.core_pure_calls.specs.Dictionary.{Dictionary}
-use Rattle.core_pure_calls.specs.inside.Entries.{coded_dictionary}
+use Rattle.core_pure_calls.specs.Entries.{coded_dictionary}
 use Rattle.core_semantics.specs.Applications.{setting_of}
 use Rattle.core_semantics.specs.Asked.{Asked, Answered}
 use Rattle.core_eval.specs.Told.{Told}

@@ -67,9 +67,9 @@ impl<'m> Model for Machine<'m> {
 
 /// The process `pid` of the module, run to its first request: it begins with the function `function_name` of the module
 /// `module_name`, applied to the arguments (the dynamic semantics of Core Erlang 1.0.3; the Erlang manual,
-/// `erlang:spawn/3`), with an empty dictionary. Where these name no function that the module exports, it is at the end `{'undef',[]}`; the first
-/// process may begin with any function of the module, and is to begin with `main/0`. The arguments and the pid are
-/// taken over; the machine holds on to the module. `AllocError` if there is no memory for it.
+/// `erlang:spawn/3`), with an empty dictionary. Where these name no function that the module exports, it is at the end
+/// `{'undef',[]}`; the first process may begin with any function of the module, and is to begin with `main/0`. The
+/// arguments and the pid are taken over; the machine holds on to the module. `AllocError` if there is no memory for it.
 pub fn start<'m>(
     alloc: Global,
     program: &'m Module,

@@ -7,7 +7,7 @@ use Rattle.term_core.proofs.Equality.{terms_same}
 use Rattle.term_core.specs.Order.{order_of_terms}
 use Rattle.term_core.specs.Term.{meaning_of}
 use Rattle.core_pure_calls.specs.declared.dictionary.Entry.{Entry}
-use Rattle.core_pure_calls.specs.inside.Entries.{entry_of}
+use Rattle.core_pure_calls.specs.Entries.{entry_of}
 
 abbrev pub same_entry : Entry → Entry → Bool
 same_entry a b = eq_by_cmp order_of_terms (meaning_of a.key) (meaning_of b.key) && eq_by_cmp order_of_terms (meaning_of a.value) (meaning_of b.value)

@@ -6,6 +6,7 @@ pub mod Kinds
 pub mod Tuples
 pub mod Lists
 pub mod Dictionary
+pub mod Entries
 pub mod Raising
 pub mod Calls
 pub mod Rows

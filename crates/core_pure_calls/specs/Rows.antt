@@ -79,5 +79,7 @@ DictionaryRows =
     × DictionaryRow ((a, two) ∷ (b, one) ∷ []) calls.Erase (a ∷ []) (Value two) ((b, one) ∷ [])
     × DictionaryRow ((a, two) ∷ []) calls.Erase (b ∷ []) (Value none) ((a, two) ∷ [])
     × DictionaryRow ((a, two) ∷ []) calls.EraseAll [] (Value (list_of (Tuple (meanings_of (a ∷ two ∷ [])) ∷ []))) []
+    × DictionaryRow ((a, two) ∷ (b, one) ∷ []) calls.GetAll [] (Value (list_of (Tuple (meanings_of (a ∷ two ∷ [])) ∷ Tuple (meanings_of (b ∷ one ∷ [])) ∷ []))) ((a, two) ∷ (b, one) ∷ [])
+    × DictionaryRow ((a, two) ∷ (b, one) ∷ []) calls.GetKeys [] (Value (list_of (a ∷ b ∷ []))) ((a, two) ∷ (b, one) ∷ [])
     × DictionaryRow ((a, one) ∷ (b, one) ∷ []) calls.GetKeysOf (one ∷ []) (Value (list_of (a ∷ b ∷ []))) ((a, one) ∷ (b, one) ∷ [])
     × DictionaryRow ((a, two) ∷ (b, one) ∷ []) calls.GetKeysOf (one ∷ []) (Value (list_of (b ∷ []))) ((a, two) ∷ (b, one) ∷ [])

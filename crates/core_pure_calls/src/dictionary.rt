@@ -4,7 +4,7 @@ ghost use Rattle.std.specs.Prelude.{◌≡◌, ◌++◌, [], IfOk, OnOk, map, tr
 ghost use Rattle.term_core.specs.Term.{meaning_of};
 ghost use Rattle.core_pure_calls.specs.Dictionary.{above, all_of, below, keys_of, keys_with, pair_of, value_of, with_value, without_key};
 ghost use Rattle.core_pure_calls.specs.Lists.{list_of};
-ghost use Rattle.core_pure_calls.specs.inside.Entries.{entry_of};
+ghost use Rattle.core_pure_calls.specs.Entries.{entry_of};
 
 use crate::compare::{are_equal, is_greater, is_less};
 use std::alloc::{AllocError, Global};
@@ -57,14 +57,14 @@ impl Drop for Dictionary {
 
 impl Model for Dictionary {
     ghost use Rattle.core_pure_calls.specs.Dictionary.{Dictionary};
-    ghost use Rattle.core_pure_calls.specs.inside.Entries.{coded_dictionary};
+    ghost use Rattle.core_pure_calls.specs.Entries.{coded_dictionary};
 
     ghost Value = { Dictionary };
 
     ghost coded = { coded_dictionary };
 
     ghost use Rattle.std.specs.Prelude.{map};
-    ghost use Rattle.core_pure_calls.specs.inside.Entries.{entry_of, items_of};
+    ghost use Rattle.core_pure_calls.specs.Entries.{entry_of, items_of};
 
     ghost view = { λ d. map entry_of (items_of d.entries) };
 }

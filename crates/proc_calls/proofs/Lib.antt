@@ -1,1 +1,2 @@
+pub mod Arities
 pub mod Listing

@@ -1,11 +1,14 @@
 -- Arguments as they are held, in the words of the calls of the explored world.
 use Rattle.std.specs.Prelude.{Bool, true, false}
 use Rattle.world_model.specs.Calls as calls
+use Rattle.world_model.specs.Names.{ref_of}
 use Rattle.world_model.specs.Requests as requests
 use Rattle.proc_calls.specs.declared.argument.Destination.{Destination}
-use Rattle.proc_calls.specs.declared.argument.Destination.TheVariants.{ToProcess, ToName, ToNobody}
+use Rattle.proc_calls.specs.declared.argument.Destination.TheVariants.{ToProcess, ToName, ToReference, ToNobody}
 use Rattle.proc_calls.specs.declared.argument.MonitorType.{MonitorType}
 use Rattle.proc_calls.specs.declared.argument.MonitorType.TheVariants.{Process, Another}
+use Rattle.proc_calls.specs.declared.guarding.Naming.{Naming}
+use Rattle.proc_calls.specs.declared.guarding.Naming.TheVariants.{Named, Bare}
 use Rattle.proc_calls.specs.declared.options.Flushing.{Flushing}
 use Rattle.proc_calls.specs.declared.options.Flushing.TheVariants.{Flushes, Keeps}
 use Rattle.proc_calls.specs.declared.options.Trapping.{Trapping}
@@ -18,6 +21,7 @@ use Rattle.proc_calls.specs.declared.spawning.SpawnWay.TheVariants.{Alone, Linke
 abbrev pub destination_in : Destination → calls.Destination
 destination_in (ToProcess pid) = calls.ToProcess pid
 destination_in (ToName name) = calls.ToName name
+destination_in (ToReference reference) = calls.ToReference (ref_of reference)
 destination_in ToNobody = calls.ToNobody
 
 -- whether it is a process that is to be watched
@@ -34,6 +38,11 @@ flushes Keeps = false
 abbrev pub traps : Trapping → Bool
 traps Traps = true
 traps Obeys = false
+
+-- whether the message of a timer names it
+abbrev pub is_named : Naming → Bool
+is_named Named = true
+is_named Bare = false
 
 -- what a spawn adds
 abbrev pub way_in : SpawnWay → calls.SpawnWay

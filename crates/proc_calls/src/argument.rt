@@ -17,6 +17,8 @@ pub enum Destination {
     ToProcess(Pid),
     /// The holder of a name.
     ToName(Atom),
+    /// The process that a reference is an alias of.
+    ToReference(RefId),
     /// What is neither.
     ToNobody,
 }
@@ -32,13 +34,14 @@ pub enum MonitorType {
 
 impl Destination {
     /// Who a term names as the receiver of a message, or `AllocError` where its copies can no longer be counted (erlang
-    /// manual, `send/2`): an atom is a name.
+    /// manual, `send/2`): an atom is a name, and a reference an alias.
     pub fn of(term: &Term) -> Result<Destination, AllocError>
         ensures { IfOk result (λ destination. destination_in destination ≡ destination_of (meaning_of term.now)) }
     {
         match term {
             Term::Pid(pid) => Ok(Destination::ToProcess(pid.copy()?)),
             Term::Atom(name) => Ok(Destination::ToName(name.copy()?)),
+            Term::Ref(reference) => Ok(Destination::ToReference(reference.copy()?)),
             _ => Ok(Destination::ToNobody),
         }
     }

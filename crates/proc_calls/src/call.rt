@@ -1,8 +1,10 @@
 // The calls of processes, each with its arguments.
 use crate::argument::{Destination, MonitorType};
+use crate::guarding::Naming;
 use crate::options::{Flushing, Trapping};
 use crate::spawning::{Origin, SpawnWay};
 use term_core::{Atom, Pid, RefId, Term};
+use world_model::alias::AliasEnd;
 
 /// A call of processes (the Erlang manual, module `erlang`). An argument that is not of its kind is `None`.
 #[derive(Drop)]
@@ -17,8 +19,8 @@ pub enum ProcessCall {
     Link(Option<Pid>),
     /// `unlink/1`: removes the link of the caller and the process.
     Unlink(Option<Pid>),
-    /// `monitor/2`: watches the process.
-    Monitor(MonitorType, Option<Pid>),
+    /// `monitor/2` and `monitor/3`: watches the process, with an alias where one is asked for.
+    Monitor(MonitorType, Option<Pid>, Option<Option<AliasEnd>>),
     /// `demonitor/1` and `demonitor/2`: ends the watch of this reference.
     Demonitor(Option<RefId>, Option<Flushing>),
     /// `process_flag/2`: whether the caller traps exits from now on.
@@ -33,4 +35,14 @@ pub enum ProcessCall {
     IsAlive(Option<Pid>),
     /// `make_ref/0`: a new reference.
     MakeRef,
+    /// `alias/0` and `alias/1`: a new alias of the caller.
+    MakeAlias(Option<AliasEnd>),
+    /// `unalias/1`: ends the alias of the caller.
+    Unalias(Option<RefId>),
+    /// `start_timer/3` and `send_after/3`: starts a timer of so many milliseconds, which sends the message.
+    StartTimer(Naming, Option<i64>, Option<Pid>, Term),
+    /// `cancel_timer/1`: ends the timer.
+    CancelTimer(Option<RefId>),
+    /// `read_timer/1`: how long the timer has to run.
+    ReadTimer(Option<RefId>),
 }

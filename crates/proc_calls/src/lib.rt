@@ -3,12 +3,14 @@
 
 pub mod argument;
 pub mod call;
+pub mod guarding;
 pub mod options;
 pub mod request;
 pub mod spawning;
 
 pub use argument::{Destination, MonitorType};
 pub use call::ProcessCall;
+pub use guarding::Naming;
 pub use options::{Flushing, Trapping};
 pub use request::ProcessRequest;
 pub use spawning::{Origin, SpawnWay};

@@ -1,21 +1,23 @@
 // What a call asks of processes: which call of processes it is, and what each of its arguments is (the Erlang manual,
 // module `erlang`).
 ghost use Rattle.std.specs.Prelude.{IfOk};
-ghost use Rattle.proc_calls.specs.Arguments.{way_in};
+ghost use Rattle.proc_calls.specs.Arguments.{is_named, way_in};
 ghost use Rattle.proc_calls.specs.Calls.{call_in};
 ghost use Rattle.proc_calls.specs.Requests.{IsReadAs};
 ghost use Rattle.term_core.specs.Term.{meaning_of};
 ghost use Rattle.world_model.specs.Calls as calls;
-ghost use Rattle.world_model.specs.Calls.{call_of, call_of_none, call_of_one, call_of_two, call_of_three, origin_of};
-ghost use Rattle.world_model.specs.Terms.{atom_in, items_in};
+ghost use Rattle.world_model.specs.Calls.{call_of, call_of_none, call_of_one, call_of_two, call_of_three, origin_of, time_of};
+ghost use Rattle.world_model.specs.Terms.{atom_in, items_in, process_in};
 
 use crate::argument::{Destination, MonitorType, name_in, process_in, reference_in};
 use crate::call::ProcessCall;
+use crate::guarding::{Naming, alias_in, end_in, time_in};
 use crate::options::{Flushing, Trapping};
 use crate::spawning::{Origin, SpawnWay};
 use core_tree::CallKind;
 use std::alloc::{AllocError, Global};
 use term_core::{Term, Terms};
+use world_model::alias::AliasEnd;
 
 /// What a call asks of processes.
 #[derive(Drop)]
@@ -41,6 +43,7 @@ fn of_none(kind: CallKind) -> Result<ProcessRequest, AllocError>
 {
     match kind {
         CallKind::MakeRef => asks(ProcessCall::MakeRef),
+        CallKind::Alias => asks(ProcessCall::MakeAlias(Some(AliasEnd::ByUnalias))),
         _ => Ok(ProcessRequest::Misfit),
     }
 }
@@ -59,6 +62,10 @@ fn of_one(kind: CallKind, first: &Term) -> Result<ProcessRequest, AllocError>
         CallKind::Unregister => asks(ProcessCall::Unregister(name_in(first)?)),
         CallKind::Whereis => asks(ProcessCall::WhereIs(name_in(first)?)),
         CallKind::IsProcessAlive => asks(ProcessCall::IsAlive(process_in(first)?)),
+        CallKind::AliasWith => asks(ProcessCall::MakeAlias(end_in(first))),
+        CallKind::Unalias => asks(ProcessCall::Unalias(reference_in(first)?)),
+        CallKind::CancelTimer => asks(ProcessCall::CancelTimer(reference_in(first)?)),
+        CallKind::ReadTimer => asks(ProcessCall::ReadTimer(reference_in(first)?)),
         CallKind::First
         | CallKind::Last
         | CallKind::TableToList
@@ -86,6 +93,7 @@ fn of_two(kind: CallKind, first: &Term, second: &Term) -> Result<ProcessRequest,
         CallKind::Monitor => asks(ProcessCall::Monitor(
             MonitorType::of(first),
             process_in(second)?,
+            Some(None),
         )),
         CallKind::DemonitorWith => asks(ProcessCall::Demonitor(
             reference_in(first)?,
@@ -125,6 +133,18 @@ fn spawn(
     ))
 }
 
+// A timer.
+fn start_timer(
+    naming: Naming,
+    time: &Term,
+    to: &Term,
+    message: &Term,
+) -> Result<ProcessRequest, AllocError>
+    ensures { IfOk result (IsReadAs (calls.StartTimer (is_named naming) (time_of (meaning_of time.now)) (process_in (meaning_of to.now)) (meaning_of message.now))) }
+{
+    asks(ProcessCall::StartTimer(naming, time_in(time), process_in(to)?, message.copy()?))
+}
+
 // A call with three arguments.
 fn of_three(
     alloc: Global,
@@ -139,6 +159,13 @@ fn of_three(
         CallKind::Spawn => spawn(alloc, SpawnWay::Alone, first, second, third),
         CallKind::SpawnLink => spawn(alloc, SpawnWay::Linked, first, second, third),
         CallKind::SpawnMonitor => spawn(alloc, SpawnWay::Watched, first, second, third),
+        CallKind::MonitorWith => asks(ProcessCall::Monitor(
+            MonitorType::of(first),
+            process_in(second)?,
+            alias_in(third),
+        )),
+        CallKind::StartTimer => start_timer(Naming::Named, first, second, third),
+        CallKind::SendAfter => start_timer(Naming::Bare, first, second, third),
         CallKind::LookupElement
         | CallKind::UpdateCounter
         | CallKind::UpdateElement

@@ -1,21 +1,28 @@
 -- Links, watches and names that are compared as the same are the same.
-use Rattle.std.proofs.Common.{◌≡◌, ◌&&◌, ℕ, Bool, true, false, not, List, map, bytes_eq, refl, sym, ap, ◌∙◌}
+use Rattle.std.proofs.Common.{◌≡◌, ◌&&◌, ℕ, Bool, true, false, not, List, map, option_map, bytes_eq, refl, sym, ap, ◌∙◌}
+use Rattle.std.proofs.lemmas.Bool.{and_parts}
 use Rattle.std.proofs.lemmas.Slice.Eq.{bytes_eq-Decides}
 use Rattle.std.specs.BTreeMap.{BTreeMap, get, is_at}
 use Rattle.std.specs.Cmp.Lexicographic.{pointwise}
 use Rattle.std.specs.Map.{lookup}
-use Rattle.std.specs.Ordering.{eq_by_cmp}
+use Rattle.std.specs.Ordering.{eq_by_cmp, int_eq}
 use Rattle.term_core.proofs.Equality.{reference_ids_same}
 use Rattle.term_core.specs.Order.{order_of_lists}
 use Rattle.term_core.specs.StepOrder.{order_of_reference_ids}
-use Rattle.world_model.specs.Names.{ref_of}
+use Rattle.world_model.specs.Names.{ref_of, same_pid}
 use Rattle.proc_groups.specs.declared.groups.Groups.{Groups}
 use Rattle.proc_groups.specs.Groups.{members_in}
 use Rattle.proc_groups.proofs.Alike.{entries_told}
 use Rattle.proc_links.specs.Bearers as bearers
+use Rattle.proc_links.specs.Guards as guards
+use Rattle.proc_links.specs.Guards.{guard_of, same_end, same_guard}
 use Rattle.proc_links.specs.Names as naming
 use Rattle.proc_links.specs.Watchers as watching
+use Rattle.proc_links.specs.inside.Alike.{end_told, integer_told}
 use Rattle.proc_links.specs.inside.Watched.{AreSame}
+use Rattle.proc_links.specs.declared.guards.Guard.{Guard}
+use Rattle.proc_links.specs.declared.guards.Guard.TheVariants.{Alias, Timer}
+use Rattle.proc_links.specs.declared.guards.Guards.{Guards}
 use Rattle.proc_links.specs.declared.names.Names.{Names}
 use Rattle.proc_links.specs.declared.watchers.Watchers.{Watchers}
 
@@ -42,3 +49,20 @@ watches_of_both one other same = record { watchers = λ p. ap (map ref_of) (same
 
 pub names_of_both : (one other : Names) → bearers.AreSame one.bearers.value other.bearers.value → naming.IsUnchanged one other
 names_of_both one other same = record { holders = same.holders; names = same.names }
+
+-- guards that are compared as the same
+stored_told : (a b : Guard) → same_guard (guard_of a) (guard_of b) ≡ true → a ≡ b
+stored_told (Alias p a) (Alias q b) e =
+    let s = and_parts (same_pid p q) (same_end a b) e in
+    λ i. Alias ((bytes_eq-Decides p q).0 s.0 i) (end_told a b s.1 i)
+stored_told (Timer p m) (Timer q n) e =
+    let s = and_parts (same_pid p q) (int_eq m n) e in
+    λ i. Timer ((bytes_eq-Decides p q).0 s.0 i) (integer_told m n s.1 i)
+stored_told (Alias p a) (Timer q n) e = cc
+stored_told (Timer p m) (Alias q b) e = cc
+
+pub guards_told : (a b : BTreeMap (List ℕ × ℕ) Guard) → pointwise (λ p q. eq_by_cmp order_of_reference_ids p.0 q.0 && same_guard (guard_of p.1) (guard_of q.1)) a.entries b.entries ≡ true → a.entries ≡ b.entries
+guards_told a b e = entries_told (eq_by_cmp order_of_reference_ids) (λ x y. same_guard (guard_of x) (guard_of y)) (λ x y. (reference_ids_same x y _ refl).0) stored_told a.entries b.entries e
+
+pub guards_of_both : (one other : Guards) → one.guards.value.entries ≡ other.guards.value.entries → guards.IsUnchanged one other
+guards_of_both one other same ref = ap (λ es. option_map guard_of (lookup (is_at (order_of_reference_ids (ref.pid, ref.number))) es)) (sym same)

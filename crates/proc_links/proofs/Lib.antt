@@ -1,4 +1,5 @@
 pub mod Alike
+pub mod Guarding
 pub mod Linked
 pub mod Named
 pub mod Telling

@@ -5,4 +5,5 @@ pub mod Bearers
 pub mod Names
 pub mod Effects
 pub mod Watchers
+pub mod Guards
 pub mod inside

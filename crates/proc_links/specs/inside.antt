@@ -1,1 +1,3 @@
 pub mod Watched
+pub mod Guarded
+pub mod Alike

@@ -3,6 +3,7 @@
 #![tactic(auto)]
 
 pub mod effect;
+pub mod guards;
 pub mod links;
 pub mod living;
 pub mod names;
@@ -11,6 +12,7 @@ pub mod signal;
 pub mod watchers;
 
 pub use effect::{Effect, Sender, down_message, exit_message, on_exit};
+pub use guards::{Guard, Guards};
 pub use links::{Linking, Links};
 pub use living::Living;
 pub use names::{Names, Naming};

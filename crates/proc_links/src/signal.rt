@@ -9,6 +9,7 @@ ghost use Rattle.proc_links.specs.Put.{AreSignalsOfEnd, put_of};
 ghost use Rattle.proc_signals.specs.Signal.{signal_of};
 
 use crate::effect::{Effect, Sender, on_exit};
+use crate::guards::Guards;
 use crate::links::Links;
 use crate::living::Living;
 use crate::process::Exits;
@@ -19,7 +20,8 @@ use term_core::{Pid, RefId, Term};
 
 /// What a signal from one process does at another, with what exit signals are to that one: a message is put into the
 /// mailbox; an exit signal acts as `on_exit` says, that of a link and that of a watch as `Links::on_link_exit` and
-/// `Watchers::on_down` say. `AllocError` if there is no memory for a message.
+/// `Watchers::on_down` say, and a message to a reference as `Guards::on_message` and `Guards::on_elapsed`. `AllocError` if
+/// there is no memory for a message.
 pub fn on_signal(
     alloc: Global,
     signal: &Signal,
@@ -28,14 +30,17 @@ pub fn on_signal(
     exits: Exits,
     links: &Links,
     watchers: &Watchers,
+    guards: &Guards,
 ) -> Result<Effect, AllocError>
-    ensures { IfOk result (λ effect. IsEffectOf links.now watchers.now exits from.now to.now (signal_of signal.now) effect) }
+    ensures { IfOk result (λ effect. IsEffectOf links.now watchers.now guards.now exits from.now to.now (signal_of signal.now) effect) }
 {
     match signal {
         Signal::Message(message) => Ok(Effect::Put(message.copy()?)),
         Signal::Exit(reason) => on_exit(alloc, Sender::Another, from, reason, exits),
         Signal::LinkExit(reason) => links.on_link_exit(alloc, from, to, reason, exits),
         Signal::Down(reference, reason) => watchers.on_down(alloc, reference, from, reason),
+        Signal::Guarded(reference, message) => guards.on_message(reference, to, message),
+        Signal::Elapsed(reference, message) => guards.on_elapsed(reference, message),
     }
 }
 

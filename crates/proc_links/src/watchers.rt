@@ -188,8 +188,8 @@ impl Watchers {
     /// `AllocError` if there is no memory for what is shared with a copy, and then nothing is changed.
     pub fn unwatch(&mut self, reference: &RefId, target: &Pid) -> Result<(), AllocError>
         ensures ok { OnOk result (EndsWatch (ref_of reference.now) target.now self.old self.new) }
-        ensures watchers { OnOk result ((v : Contents) (r : names.Pid) (reason : Meaning) → AreWatchers self.old v → AreWatchers self.new (after (goes_with target.now r (events.Down (ref_of reference.now) reason)) v)) }
-        ensures watches { OnOk result ((v : Contents) (r : names.Pid) (reason : Meaning) → AreWatches self.old v → AreWatches self.new (after (goes_with target.now r (events.Down (ref_of reference.now) reason)) v)) }
+        ensures watchers { OnOk result ((v : Contents) (r : names.Pid) (reason : Meaning) → AreWatchers self.old v → AreWatchers self.new (after (goes_with v target.now r (events.Down (ref_of reference.now) reason)) v)) }
+        ensures watches { OnOk result ((v : Contents) (r : names.Pid) (reason : Meaning) → AreWatches self.old v → AreWatches self.new (after (goes_with v target.now r (events.Down (ref_of reference.now) reason)) v)) }
         ensures err { OnErr result (IsUnchanged self.old self.new) }
     {
         let watches = Arc::make_mut(&mut self.watches)?;

@@ -18,6 +18,10 @@ pub enum Signal {
     LinkExit(Term),
     /// That a watched process ended: the reference of the watch, and the reason.
     Down(RefId, Term),
+    /// A message to a process by a reference, which has to be an alias of it where the message comes.
+    Guarded(RefId, Term),
+    /// The message of a timer, by the timer's reference.
+    Elapsed(RefId, Term),
 }
 
 impl PartialEq for Signal {
@@ -38,6 +42,12 @@ impl PartialEq for Signal {
             (Signal::LinkExit(reason), Signal::LinkExit(given)) => *reason == *given,
             (Signal::Down(reference, reason), Signal::Down(watch, given)) => {
                 *reference == *watch && *reason == *given
+            }
+            (Signal::Guarded(reference, message), Signal::Guarded(alias, said)) => {
+                *reference == *alias && *message == *said
+            }
+            (Signal::Elapsed(reference, message), Signal::Elapsed(timer, said)) => {
+                *reference == *timer && *message == *said
             }
             _ => false,
         }
@@ -65,6 +75,16 @@ impl Signal {
                 reference.hash(state);
                 reason.hash(state);
             }
+            Signal::Guarded(reference, message) => {
+                state.write_u8(4);
+                reference.hash(state);
+                message.hash(state);
+            }
+            Signal::Elapsed(reference, message) => {
+                state.write_u8(5);
+                reference.hash(state);
+                message.hash(state);
+            }
         }
     }
 
@@ -79,6 +99,12 @@ impl Signal {
             Signal::LinkExit(reason) => Ok(Signal::LinkExit(reason.copy()?)),
             Signal::Down(reference, reason) => {
                 Ok(Signal::Down(reference.copy()?, reason.copy()?))
+            }
+            Signal::Guarded(reference, message) => {
+                Ok(Signal::Guarded(reference.copy()?, message.copy()?))
+            }
+            Signal::Elapsed(reference, message) => {
+                Ok(Signal::Elapsed(reference.copy()?, message.copy()?))
             }
         }
     }

@@ -4,7 +4,7 @@ use Rattle.std.specs.Fmt.{decimal, signed_decimal}
 use Rattle.std.specs.List.{AllByRecursion, flat_map}
 use Rattle.core_calls.specs.Calls.{signature}
 use Rattle.core_calls.specs.declared.call.CallKind.{CallKind}
-use Rattle.core_calls.specs.declared.call.CallKind.TheVariants.{Spawn, SpawnLink, SpawnMonitor, Bang, Send, Exit, Link, Unlink, Monitor, Demonitor, DemonitorWith, ProcessFlag, Register, Unregister, Whereis, IsProcessAlive, MakeRef, New, Lookup, Member, LookupElement, First, Last, Next, Prev, TableToList, Insert, InsertNew, DeleteTable, DeleteKey, DeleteObject, DeleteAllObjects, Take, UpdateCounter, UpdateElement, GiveAway, SetOptions, Info}
+use Rattle.core_calls.specs.declared.call.CallKind.TheVariants.{Spawn, SpawnLink, SpawnMonitor, Bang, Send, Exit, Link, Unlink, Monitor, Demonitor, DemonitorWith, ProcessFlag, Register, Unregister, Whereis, IsProcessAlive, MakeRef, MonitorWith, Alias, AliasWith, Unalias, StartTimer, SendAfter, CancelTimer, ReadTimer, New, Lookup, Member, LookupElement, First, Last, Next, Prev, TableToList, Insert, InsertNew, DeleteTable, DeleteKey, DeleteObject, DeleteAllObjects, Take, UpdateCounter, UpdateElement, GiveAway, SetOptions, Info}
 use Rattle.world_identities.specs.Order.{number_of_rule}
 use Rattle.report_identities.specs.Lawful.{IsLawfulIdentity}
 use Rattle.world_event_text.specs.CallText.{name_of_rule, text_of_arguments, text_of_broken_rule, text_of_call, text_of_owner, text_of_rule}
@@ -155,6 +155,14 @@ no_end-module Unregister = refl
 no_end-module Whereis = refl
 no_end-module IsProcessAlive = refl
 no_end-module MakeRef = refl
+no_end-module MonitorWith = refl
+no_end-module Alias = refl
+no_end-module AliasWith = refl
+no_end-module Unalias = refl
+no_end-module StartTimer = refl
+no_end-module SendAfter = refl
+no_end-module CancelTimer = refl
+no_end-module ReadTimer = refl
 no_end-module New = refl
 no_end-module Lookup = refl
 no_end-module Member = refl
@@ -195,6 +203,14 @@ no_end-function Unregister = refl
 no_end-function Whereis = refl
 no_end-function IsProcessAlive = refl
 no_end-function MakeRef = refl
+no_end-function MonitorWith = refl
+no_end-function Alias = refl
+no_end-function AliasWith = refl
+no_end-function Unalias = refl
+no_end-function StartTimer = refl
+no_end-function SendAfter = refl
+no_end-function CancelTimer = refl
+no_end-function ReadTimer = refl
 no_end-function New = refl
 no_end-function Lookup = refl
 no_end-function Member = refl

@@ -4,8 +4,8 @@ use Rattle.std.specs.Fmt.{decimal}
 use Rattle.term_core.specs.Meaning.{Meaning}
 use Rattle.core_calls.specs.declared.call.CallKind.{CallKind}
 use Rattle.world_model.specs.Names.{Ref}
-use Rattle.world_model.specs.Events.{Signal, Message, Exit, LinkExit, Down, Fate, Arrives, IsIgnored, IsDropped, Kills, Refusal, Badarg, NoProcess, ByRule, Deed, Served, Refused, EndedItself, Received, TimedOut, Ended, RanAway, Delivered, Event}
-use Rattle.report_terms.specs.Strings.{string_of_reference, string_of_step, string_of_term}
+use Rattle.world_model.specs.Events.{Signal, Message, Exit, LinkExit, Down, Guarded, Elapsed, Fate, Arrives, IsIgnored, IsDropped, Kills, Refusal, Badarg, NoProcess, ByRule, Deed, Served, Refused, EndedItself, Received, TimedOut, Ended, RanAway, Delivered, Event}
+use Rattle.report_terms.specs.Strings.{string_of_reference, string_of_step, string_of_term, term_after_comma}
 use Rattle.report_terms.specs.CallTerms.{call_as_term, rule_as_term}
 
 -- `{Word,Term}`
@@ -45,12 +45,18 @@ exit_as_term reason fate = codes "{exit," ++ (string_of_term reason ++ (codes ",
 abbrev pub down_as_term : Ref → Fate → List ℕ
 down_as_term ref fate = codes "{down," ++ (string_of_reference ref ++ (codes "," ++ (fate_as_term fate ++ codes "}")))
 
+-- a message by an alias or a timer: a beginning that says which, as `{alias,`, and then `Reference,Message,Fate}`
+abbrev pub guarded_as_term : List ℕ → Ref → Meaning → Fate → List ℕ
+guarded_as_term beginning ref message fate = beginning ++ (string_of_reference ref ++ (term_after_comma message ++ (codes "," ++ (fate_as_term fate ++ codes "}"))))
+
 -- a signal, and what became of it
 abbrev pub delivered_as_term : Signal → Fate → List ℕ
 delivered_as_term (Message message) fate = word_and_term (codes "brings") message
 delivered_as_term (Exit reason) fate = exit_as_term reason fate
 delivered_as_term (LinkExit reason) fate = exit_as_term reason fate
 delivered_as_term (Down ref reason) fate = down_as_term ref fate
+delivered_as_term (Guarded ref message) fate = guarded_as_term (codes "{alias,") ref message fate
+delivered_as_term (Elapsed ref message) fate = guarded_as_term (codes "{timer,") ref message fate
 
 -- ---- events
 

@@ -8,10 +8,12 @@ ghost use Rattle.world_model.specs.Names.{ref_of};
 ghost use Rattle.world_planned.specs.Replies.{refusal_in};
 ghost use Rattle.world_footprints.specs.Deeds.{deed_in, event_in};
 ghost use Rattle.report_explained.specs.Explained.{IsExplained};
-ghost use Rattle.report_terms.specs.EventTerms.{deed_as_term, delivered_as_term, down_as_term, event_line, exit_as_term, fate_as_term, refusal_as_term, refused_as_term, word_and_term, word_call_and_term};
+ghost use Rattle.report_terms.specs.EventTerms.{deed_as_term, delivered_as_term, down_as_term, event_line, exit_as_term, fate_as_term, guarded_as_term, refusal_as_term, refused_as_term, word_and_term, word_call_and_term};
 
 use crate::calls::{write_call, write_rule};
-use crate::strings::{write_reference_string, write_step_string, write_term_string};
+use crate::strings::{
+    write_reference_string, write_step_string, write_term_after_comma, write_term_string,
+};
 use core_tree::CallKind;
 use proc_links::Effect;
 use proc_signals::Signal;
@@ -164,6 +166,12 @@ fn write_delivered<W: Sink>(
         Signal::Exit(reason) => write_exit(alloc, reason, effect, sink),
         Signal::LinkExit(reason) => write_exit(alloc, reason, effect, sink),
         Signal::Down(reference, _) => write_down(alloc, reference, effect, sink),
+        Signal::Guarded(reference, message) => {
+            write_guarded(alloc, b"{alias,", reference, message, effect, sink)
+        }
+        Signal::Elapsed(reference, message) => {
+            write_guarded(alloc, b"{timer,", reference, message, effect, sink)
+        }
     }
 }
 
@@ -197,6 +205,28 @@ fn write_down<W: Sink>(
 {
     write_all(sink, b"{down,")?;
     write_reference_string(reference, sink)?;
+    write_all(sink, b",")?;
+    write_effect(alloc, effect, sink)?;
+    write_all(sink, b"}")?;
+    Ok(())
+}
+
+// Writes a message by an alias or a timer: the beginning of its term, which says which, the reference, the message, and
+// what became of it.
+fn write_guarded<W: Sink>(
+    alloc: Global,
+    beginning: &[u8],
+    reference: &RefId,
+    message: &Term,
+    effect: &Effect,
+    sink: &mut W,
+) -> Result<(), ExplainFault>
+    requires { W.has_failed sink.old ≡ false }
+    ensures { IsExplained (guarded_as_term beginning.now (ref_of reference.now) (meaning_of message.now) (fate_in effect.now)) (W.contents sink.old) (W.contents sink.new) (W.has_failed sink.new) result }
+{
+    write_all(sink, beginning)?;
+    write_reference_string(reference, sink)?;
+    write_term_after_comma(alloc, message, sink)?;
     write_all(sink, b",")?;
     write_effect(alloc, effect, sink)?;
     write_all(sink, b"}")?;

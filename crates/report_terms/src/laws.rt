@@ -1,5 +1,5 @@
 // Worked rows of the report as terms.
-ghost use Rattle.report_terms.specs.EventRows.{KillIsTold, MessageIsTold, RefusalIsTold, TimeoutIsTold};
+ghost use Rattle.report_terms.specs.EventRows.{AliasIsTold, KillIsTold, MessageIsTold, RefusalIsTold, TimeoutIsTold, TimerIsTold};
 ghost use Rattle.report_terms.specs.FirstTerms.{NodesAreTold, PromptStatesAreTold, SamplesAreTold, StatesAreTold, StatesStop, StatesTakeMemory, TreeStops, TreeTakesMemory};
 ghost use Rattle.report_terms.specs.LastTerms.{CleanOfAll, CleanToDepth, ErrorsAreFound, ErrorsOfAll, ErrorsToDepth, NothingIsCounted, NothingIsFound, RunawayIsCounted, StopIsIncomplete};
 ghost use Rattle.report_terms.specs.StringRows.{AtomIsQuoted, BothAreEscaped, NoStepIsEmpty, OthersArePlain, StepsHaveBlanks, TermsHaveCommas};
@@ -20,6 +20,8 @@ pub fn event_lines_are_so()
     ensures timeout { TimeoutIsTold }
     ensures refusal { RefusalIsTold }
     ensures kill { KillIsTold }
+    ensures alias { AliasIsTold }
+    ensures timer { TimerIsTold }
 {}
 
 /// First lines, of the tree, of states and of random schedules, are what was worked out by hand.

@@ -8,7 +8,7 @@ use Rattle.search_levels.proofs.Placed.{all_front, all_last, all_more}
 use Rattle.term_core.specs.StepOrder.{order_of_steps}
 use Rattle.term_core.specs.declared.step.Step.{Step}
 use Rattle.tree_coverage.proofs.Lists.{all_among, among_map}
-use Rattle.tree_schedules.specs.Deliveries.{first_or_all, is_delivery, steps_by}
+use Rattle.tree_schedules.specs.Deliveries.{first_or_all, is_at_once, steps_by}
 use Rattle.tree_schedules.specs.declared.delivery.Delivery.{Delivery}
 use Rattle.tree_schedules.specs.declared.delivery.Delivery.TheVariants.{AnyTime, AtOnce}
 use Rattle.world_model.proofs.Opened.{listed_in_order}
@@ -53,7 +53,7 @@ first_in_order (d ∷ ds) es sorted = (tt, tt)
 
 in_order_by : (d : Delivery) (a : Program) (h : History) → AreInOrder (steps_by d a h)
 in_order_by AnyTime a h = listed_in_order a h
-in_order_by AtOnce a h = first_in_order (filter is_delivery (enabled_steps a h)) (enabled_steps a h) (listed_in_order a h)
+in_order_by AtOnce a h = first_in_order (filter (is_at_once h) (enabled_steps a h)) (enabled_steps a h) (listed_in_order a h)
 
 steps_sorted : (rs : List Arrived) → AreInOrder (map (λ r. r.of.step) rs) → StepsInOrder rs
 unfolding IsStrictlySortedBy

@@ -18,9 +18,8 @@ use Rattle.core_tree.specs.Syntax.{ModuleTree}
 use Rattle.search_numbers.proofs.Columns.{grown_at, more_all, passes_at, still_at}
 use Rattle.search_numbers.proofs.Everywhere.{places_agree}
 use Rattle.search_numbers.proofs.Seen.{places_same}
-use Rattle.search_numbers.specs.Stored.{AllBegin, AreAsked, AreKept, AreOf, BeginAll, BeginsAt, EachBegins, Follows, HaveColumns, IsIdle, IsStore, Starts, column_in, module_in, number_in, numbered, step_at}
+use Rattle.search_numbers.specs.Stored.{AllBegin, AreAsked, AreKept, AreOf, BeginAll, BeginsAt, EachBegins, Follows, HaveColumns, IsIdle, IsStore, Starts, column_in, is_delivery, module_in, number_in, numbered, step_at}
 use Rattle.search_numbers.specs.declared.store.Store.{Store}
-use Rattle.tree_schedules.specs.Deliveries.{is_delivery}
 use Rattle.world_model.specs.Asking.{program_of}
 use Rattle.world_model.specs.Cells as cells
 use Rattle.world_model.specs.Cells.{Contents}
@@ -375,7 +374,7 @@ abbrev pub is_channel : Place → Bool
 is_channel (Channel s r) = true
 is_channel q = false
 
-channel_of : (q : Place) (a b : Pid) → step_at q ≡ Some (Deliver a b) → q ≡ Channel a b
+pub channel_of : (q : Place) (a b : Pid) → step_at q ≡ Some (Deliver a b) → q ≡ Channel a b
 channel_of (Course p) a b is = absurd cc
 channel_of (Channel s r) a b is = cc
 channel_of (Inbox p) a b is = absurd cc

@@ -42,7 +42,7 @@ places_agree m records v is (Course p) = course_agrees m records.processes v p i
 places_agree m records v is (Inbox p) = record { alive = is.processes_are.alive p; trap = is.processes_are.trap p; messages = is.mailboxes_are p }
 places_agree m records v is (Channel s r) = is.channels_are s r
 places_agree m records v is Links = is.links_are
-places_agree m records v is Watches = (is.watchers_are, is.watches_are)
+places_agree m records v is Watches = (is.watchers_are, is.watches_are, is.guards_are)
 places_agree m records v is Names = (is.holders_are, is.borne_are)
 places_agree m records v is Tables = is.tables_are
 
@@ -73,6 +73,7 @@ agree_of_places m records v each = record {
   links_are = each Links;
   watchers_are = (each Watches).0;
   watches_are = (each Watches).1;
+  guards_are = (each Watches).2;
   holders_are = (each Names).0;
   borne_are = (each Names).1;
   tables_are = each Tables;

@@ -15,3 +15,4 @@ pub mod Beginning
 pub mod Taking
 pub mod Opening
 pub mod Looked
+pub mod AtOnce

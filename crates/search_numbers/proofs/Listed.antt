@@ -10,7 +10,7 @@ use Rattle.std.specs.List.Sorted.{IsStrictlySortedBy}
 use Rattle.std.specs.declared.cmp.Ordering.TheVariants.{Less}
 use Rattle.core_tree.specs.Syntax.{ModuleTree}
 use Rattle.search_levels.specs.Arrivals.{is_some_step}
-use Rattle.search_numbers.specs.Knowing.{AreAt, AreEnabled, AreRight, FirstIs, GoesOn, InWorlds, IsAt, IsEnabledAt, IsFirstDelivery, KnowsMore}
+use Rattle.search_numbers.specs.Knowing.{AreAt, AreEnabled, AreRight, FirstIs, GoesOn, InWorlds, IsAt, IsEnabledAt, IsFirstAtOnce, KnowsMore}
 use Rattle.search_numbers.specs.inside.Finding.{IsFoundAt}
 use Rattle.search_numbers.specs.inside.Learning.{IsLearned}
 use Rattle.search_numbers.specs.Remembering.{IsRight, IsSo, shown_in}
@@ -21,7 +21,7 @@ use Rattle.search_numbers.specs.declared.remembered.Remembered.{Remembered}
 use Rattle.search_numbers.specs.declared.store.Store.{Store}
 use Rattle.term_core.specs.StepOrder.{order_of_steps}
 use Rattle.term_core.specs.declared.step.Step.{Step}
-use Rattle.tree_schedules.specs.Deliveries.{is_delivery}
+use Rattle.tree_schedules.specs.Deliveries.{is_at_once}
 use Rattle.world_identities.specs.declared.identity.Identity.{Identity}
 use Rattle.world_model.specs.Asking.{program_of}
 use Rattle.world_model.specs.Events.{History}
@@ -162,51 +162,51 @@ pub all_enabled : (old new : Known) (numbers : ℕ → ℕ) (columns places : Li
 all_enabled old new numbers columns places world asked knows so_far later m h follows are =
     subst (λ xs. AreAt new numbers xs places) (asked_enabled old.store later numbers columns m h world.kept asked (follows_too old.store new.store later knows.follows follows) are) (so_far later m h follows are)
 
--- ---- none of some steps is enabled
+-- ---- none of some steps is enabled and passes a test
 
-abbrev pub NoneIs : (Step → Bool) → Known → (ℕ → ℕ) → List Step → Type 0
-NoneIs test known numbers steps = InWorlds known numbers (λ m h. filter test (filter (is_enabled (program_of m) h) steps) ≡ [])
+abbrev pub NoneIs : (History → Step → Bool) → Known → (ℕ → ℕ) → List Step → Type 0
+NoneIs test known numbers steps = InWorlds known numbers (λ m h. filter (test h) (filter (is_enabled (program_of m) h) steps) ≡ [])
 
-abbrev pub every : Step → Bool
-every s = true
+abbrev pub every : History → Step → Bool
+every h s = true
 
-pub none_is : (test : Step → Bool) (known : Known) (numbers : ℕ → ℕ) → NoneIs test known numbers []
+pub none_is : (test : History → Step → Bool) (known : Known) (numbers : ℕ → ℕ) → NoneIs test known numbers []
 none_is test known numbers later m h follows are = refl
 
-pub still_none : (test : Step → Bool) (old new : Known) (numbers : ℕ → ℕ) (steps : List Step) (s : Step) (at : ℕ) → KnowsMore old new → AreRight new → NoneIs test old numbers steps → (is : IsAt new numbers s at) → is_some is.remembered.shown ≡ false → NoneIs test new numbers (steps ++ s ∷ [])
+pub still_none : (test : History → Step → Bool) (old new : Known) (numbers : ℕ → ℕ) (steps : List Step) (s : Step) (at : ℕ) → KnowsMore old new → AreRight new → NoneIs test old numbers steps → (is : IsAt new numbers s at) → is_some is.remembered.shown ≡ false → NoneIs test new numbers (steps ++ s ∷ [])
 still_none test old new numbers steps s at knows right before is off later m h follows are =
     let not_on : is_enabled (program_of m) h s ≡ false = enabled_at new numbers s at is right later m h follows are ∙ off in
-    ap (filter test) (last_off (is_enabled (program_of m) h) steps s not_on) ∙ before later m h (follows_too old.store new.store later knows.follows follows) are
+    ap (filter (test h)) (last_off (is_enabled (program_of m) h) steps s not_on) ∙ before later m h (follows_too old.store new.store later knows.follows follows) are
 
--- a step that is not tested is passed over
-pub passed_over : (test : Step → Bool) (known : Known) (numbers : ℕ → ℕ) (steps : List Step) (s : Step) → test s ≡ false → NoneIs test known numbers steps → NoneIs test known numbers (steps ++ s ∷ [])
+-- a step that does not pass it is passed over
+pub passed_over : (test : History → Step → Bool) (known : Known) (numbers : ℕ → ℕ) (steps : List Step) (s : Step) → InWorlds known numbers (λ m h. test h s ≡ false) → NoneIs test known numbers steps → NoneIs test known numbers (steps ++ s ∷ [])
 passed_over test known numbers steps s off before later m h follows are = go (is_enabled (program_of m) h s) refl
   where
     a : Program
     a = program_of m
 
-    go : (b : Bool) → is_enabled (program_of m) h s ≡ b → filter test (filter (is_enabled (program_of m) h) (steps ++ s ∷ [])) ≡ []
-    go true on = ap (filter test) (last_on (is_enabled (program_of m) h) steps s on) ∙ last_off test (filter (is_enabled (program_of m) h) steps) s off ∙ before later m h follows are
-    go false not_on = ap (filter test) (last_off (is_enabled (program_of m) h) steps s not_on) ∙ before later m h follows are
+    go : (b : Bool) → is_enabled (program_of m) h s ≡ b → filter (test h) (filter (is_enabled (program_of m) h) (steps ++ s ∷ [])) ≡ []
+    go true on = ap (filter (test h)) (last_on (is_enabled (program_of m) h) steps s on) ∙ last_off (test h) (filter (is_enabled (program_of m) h) steps) s (off later m h follows are) ∙ before later m h follows are
+    go false not_on = ap (filter (test h)) (last_off (is_enabled (program_of m) h) steps s not_on) ∙ before later m h follows are
 
-pub no_delivery : (old new : Known) (numbers : ℕ → ℕ) (columns : List ℕ) → IsWorldOf old.store numbers → (asked : AreAsked old.store numbers columns) → KnowsMore old new → NoneIs is_delivery new numbers (map asked.step columns) → IsFirstDelivery new numbers None
-no_delivery old new numbers columns world asked knows none later m h follows are =
+pub none_at_once : (old new : Known) (numbers : ℕ → ℕ) (columns : List ℕ) → IsWorldOf old.store numbers → (asked : AreAsked old.store numbers columns) → KnowsMore old new → NoneIs is_at_once new numbers (map asked.step columns) → IsFirstAtOnce new numbers None
+none_at_once old new numbers columns world asked knows none later m h follows are =
     let all = asked_enabled old.store later numbers columns m h world.kept asked (follows_too old.store new.store later knows.follows follows) are in
-    subst (λ xs. FirstIs new numbers xs None) (sym (sym (ap (filter is_delivery) all) ∙ none later m h follows are)) tt
+    subst (λ xs. FirstIs new numbers xs None) (sym (sym (ap (filter (is_at_once h)) all) ∙ none later m h follows are)) tt
 
 -- what comes first among more
 first_among : (test : Step → Bool) (xs ys : List Step) (s : Step) → filter test xs ≡ [] → test s ≡ true → (zs : List Step) × (filter test (xs ++ s ∷ ys) ≡ s ∷ zs)
 first_among test xs ys s none on = (filter test ys, filter-append test xs (s ∷ ys) ∙ (λ i. none i ++ cond (on i) (s ∷ filter test ys) (filter test ys)))
 
-pub first_delivery : (old middle new : Known) (numbers : ℕ → ℕ) (columns : List ℕ) (before rest : List Step) (s : Step) (at : ℕ) → IsWorldOf old.store numbers → (asked : AreAsked old.store numbers columns) → map asked.step columns ≡ before ++ s ∷ rest → KnowsMore old middle → KnowsMore middle new → AreRight new → NoneIs is_delivery middle numbers before → is_delivery s ≡ true → (is : IsAt new numbers s at) → is_some is.remembered.shown ≡ true → IsFirstDelivery new numbers (Some at)
-first_delivery old middle new numbers columns before rest s at world asked are_these first knows right none delivers is enabled later m h follows are =
+pub first_at_once : (old middle new : Known) (numbers : ℕ → ℕ) (columns : List ℕ) (before rest : List Step) (s : Step) (at : ℕ) → IsWorldOf old.store numbers → (asked : AreAsked old.store numbers columns) → map asked.step columns ≡ before ++ s ∷ rest → KnowsMore old middle → KnowsMore middle new → AreRight new → NoneIs is_at_once middle numbers before → InWorlds middle numbers (λ m h. is_at_once h s ≡ true) → (is : IsAt new numbers s at) → is_some is.remembered.shown ≡ true → IsFirstAtOnce new numbers (Some at)
+first_at_once old middle new numbers columns before rest s at world asked are_these first knows right none arrives is enabled later m h follows are =
     let a = program_of m in
     let from_middle = follows_too middle.store new.store later knows.follows follows in
     let all = ap (filter (is_enabled a h)) (sym are_these) ∙ asked_enabled old.store later numbers columns m h world.kept asked (follows_too old.store middle.store later first.follows from_middle) are in
     let on : is_enabled a h s ≡ true = enabled_at new numbers s at is right later m h follows are ∙ enabled in
     let split : filter (is_enabled a h) (before ++ s ∷ rest) ≡ filter (is_enabled a h) before ++ s ∷ filter (is_enabled a h) rest = filter-append (is_enabled a h) before (s ∷ rest) ∙ ap (λ b. filter (is_enabled a h) before ++ cond b (s ∷ filter (is_enabled a h) rest) (filter (is_enabled a h) rest)) on in
-    let found = first_among is_delivery (filter (is_enabled a h) before) (filter (is_enabled a h) rest) s (none later m h from_middle are) delivers in
-    subst (λ xs. FirstIs new numbers xs (Some at)) (sym (ap (filter is_delivery) (sym all ∙ split) ∙ found.1)) (as_enabled new numbers s at is enabled)
+    let found = first_among (is_at_once h) (filter (is_enabled a h) before) (filter (is_enabled a h) rest) s (none later m h from_middle are) (arrives later m h from_middle are) in
+    subst (λ xs. FirstIs new numbers xs (Some at)) (sym (ap (filter (is_at_once h)) (sym all ∙ split) ∙ found.1)) (as_enabled new numbers s at is enabled)
 
 -- ---- whether some step is enabled
 
@@ -218,14 +218,14 @@ pub one_goes_on : (known : Known) (numbers : ℕ → ℕ) (s : Step) (at : ℕ) 
 one_goes_on known numbers s at right is enabled later m h follows are =
     sym (some_listed s (enabled_steps (program_of m) h) (enabled_listed (program_of m) h s (enabled_at known numbers s at is right later m h follows are ∙ enabled)))
 
-all_pass : (xs : List Step) → filter every xs ≡ xs
-all_pass [] = refl
-all_pass (x ∷ xs) = ap (λ ys. x ∷ ys) (all_pass xs)
+all_pass : (h : History) (xs : List Step) → filter (every h) xs ≡ xs
+all_pass h [] = refl
+all_pass h (x ∷ xs) = ap (λ ys. x ∷ ys) (all_pass h xs)
 
 pub none_goes_on : (old new : Known) (numbers : ℕ → ℕ) (columns : List ℕ) → IsWorldOf old.store numbers → (asked : AreAsked old.store numbers columns) → KnowsMore old new → NoneIs every new numbers (map asked.step columns) → GoesOn new numbers false
 none_goes_on old new numbers columns world asked knows none later m h follows are =
     let all = asked_enabled old.store later numbers columns m h world.kept asked (follows_too old.store new.store later knows.follows follows) are in
-    sym (ap is_some_step (sym all ∙ sym (all_pass (filter (is_enabled (program_of m) h) (map asked.step columns))) ∙ none later m h follows are))
+    sym (ap is_some_step (sym all ∙ sym (all_pass h (filter (is_enabled (program_of m) h) (map asked.step columns))) ∙ none later m h follows are))
 
 -- ---- one more step is remembered
 
@@ -307,10 +307,10 @@ module _ (old new : Known) (numbers : ℕ → ℕ) (step : ℕ → Step) (items 
   none_taken places more at knows right so_far is off now =
       subst (λ steps. AreSoFar new numbers steps more) (sym (steps_taken step items i within)) (subst (λ xs. AreSoFar new numbers (earlier ++ next ∷ []) xs) (sym now) (no_more old new numbers earlier places next at knows right so_far is off))
 
-  pub still_none_taken : (test : Step → Bool) (at : ℕ) → KnowsMore old new → AreRight new → NoneIs test old numbers (map step (take i items)) → (is : IsAt new numbers (step (get_or items i 0)) at) → is_some is.remembered.shown ≡ false → NoneIs test new numbers (map step (take (i + 1) items))
+  pub still_none_taken : (test : History → Step → Bool) (at : ℕ) → KnowsMore old new → AreRight new → NoneIs test old numbers (map step (take i items)) → (is : IsAt new numbers (step (get_or items i 0)) at) → is_some is.remembered.shown ≡ false → NoneIs test new numbers (map step (take (i + 1) items))
   still_none_taken test at knows right none is off = subst (NoneIs test new numbers) (sym (steps_taken step items i within)) (still_none test old new numbers earlier next at knows right none is off)
 
-pub passed_over_taken : (test : Step → Bool) (known : Known) (numbers : ℕ → ℕ) (step : ℕ → Step) (items : List ℕ) (i : ℕ) → i < length items → test (step (get_or items i 0)) ≡ false → NoneIs test known numbers (map step (take i items)) → NoneIs test known numbers (map step (take (i + 1) items))
+pub passed_over_taken : (test : History → Step → Bool) (known : Known) (numbers : ℕ → ℕ) (step : ℕ → Step) (items : List ℕ) (i : ℕ) → i < length items → InWorlds known numbers (λ m h. test h (step (get_or items i 0)) ≡ false) → NoneIs test known numbers (map step (take i items)) → NoneIs test known numbers (map step (take (i + 1) items))
 passed_over_taken test known numbers step items i within off before =
     subst (NoneIs test known numbers) (sym (steps_taken step items i within)) (passed_over test known numbers (map step (take i items)) (step (get_or items i 0)) off before)
 
@@ -319,6 +319,6 @@ steps_split step items i within =
     ap (map step) (sym (take-append-drop i items)) ∙ map-append step (take i items) (drop i items) ∙ ap (λ xs. map step (take i items) ++ map step xs) (drop_more items i 0 within)
 
 pub first_taken : (old middle new : Known) (numbers : ℕ → ℕ) (items : List ℕ) (i at : ℕ) → i < length items → IsWorldOf old.store numbers → (asked : AreAsked old.store numbers items) → KnowsMore old middle → KnowsMore middle new → AreRight new
-    → NoneIs is_delivery middle numbers (map asked.step (take i items)) → is_delivery (asked.step (get_or items i 0)) ≡ true → (is : IsAt new numbers (asked.step (get_or items i 0)) at) → is_some is.remembered.shown ≡ true → IsFirstDelivery new numbers (Some at)
-first_taken old middle new numbers items i at within world asked first knows right none delivers is enabled =
-    first_delivery old middle new numbers items (map asked.step (take i items)) (map asked.step (drop (i + 1) items)) (asked.step (get_or items i 0)) at world asked (steps_split asked.step items i within) first knows right none delivers is enabled
+    → NoneIs is_at_once middle numbers (map asked.step (take i items)) → InWorlds middle numbers (λ m h. is_at_once h (asked.step (get_or items i 0)) ≡ true) → (is : IsAt new numbers (asked.step (get_or items i 0)) at) → is_some is.remembered.shown ≡ true → IsFirstAtOnce new numbers (Some at)
+first_taken old middle new numbers items i at within world asked first knows right none arrives is enabled =
+    first_at_once old middle new numbers items (map asked.step (take i items)) (map asked.step (drop (i + 1) items)) (asked.step (get_or items i 0)) at world asked (steps_split asked.step items i within) first knows right none arrives is enabled

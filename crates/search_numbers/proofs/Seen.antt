@@ -73,7 +73,7 @@ seen_at m (Inbox p) records v w same is = inbox_seen records p v w same is
 seen_at m (Channel s r) records v w same is =
     subst₂ (λ front tail. AreWaiting (between records.channels s r) front tail) (same (cells.Front s r) (pair_itself s r)) (same (cells.Tail s r) (pair_itself s r)) is
 seen_at m Links records v w same is = λ p. is p ∙ same (cells.Links p) refl
-seen_at m Watches records v w same is = ((λ p. is.0 p ∙ same (cells.Watchers p) refl), (λ ref. is.1 ref ∙ same (cells.Watch ref) refl))
+seen_at m Watches records v w same is = ((λ p. is.0 p ∙ same (cells.Watchers p) refl), (λ ref. is.1 ref ∙ same (cells.Watch ref) refl), (λ ref. is.2 ref ∙ same (cells.Guard ref) refl))
 seen_at m Names records v w same is = ((λ name. is.0 name ∙ same (cells.Holder name) refl), (λ p. is.1 p ∙ same (cells.NameOf p) refl))
 seen_at m Tables records v w same is = tables_seen records.tables v w same is
 

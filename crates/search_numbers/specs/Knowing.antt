@@ -11,7 +11,7 @@ use Rattle.search_numbers.specs.declared.known.Known.{Known}
 use Rattle.search_numbers.specs.declared.remembered.Remembered.{Remembered}
 use Rattle.search_numbers.specs.declared.store.Store.{Store}
 use Rattle.term_core.specs.declared.step.Step.{Step}
-use Rattle.tree_schedules.specs.Deliveries.{is_delivery}
+use Rattle.tree_schedules.specs.Deliveries.{is_at_once}
 use Rattle.world_identities.specs.Identities.{identity_in}
 use Rattle.world_model.specs.Asking.{program_of}
 use Rattle.world_model.specs.Events.{Event, History}
@@ -58,14 +58,15 @@ AreAt known numbers steps places = ⊥
 abbrev pub AreEnabled : Known → (ℕ → ℕ) → List ℕ → Type 0
 AreEnabled known numbers places = InWorlds known numbers (λ m h. AreAt known numbers (enabled_steps (program_of m) h) places)
 
--- at this place is the first delivery that is enabled, or none is
+-- at this place is the first of these steps as an enabled one, or there is none
 abbrev pub FirstIs : Known → (ℕ → ℕ) → List Step → Option ℕ → Type 0
 FirstIs known numbers [] None = Unit {0}
 FirstIs known numbers (step ∷ steps) (Some at) = IsEnabledAt known numbers step at
 FirstIs known numbers steps at = ⊥
 
-abbrev pub IsFirstDelivery : Known → (ℕ → ℕ) → Option ℕ → Type 0
-IsFirstDelivery known numbers at = InWorlds known numbers (λ m h. FirstIs known numbers (filter is_delivery (enabled_steps (program_of m) h)) at)
+-- at this place is the first enabled delivery of a signal that arrives at once, or there is none
+abbrev pub IsFirstAtOnce : Known → (ℕ → ℕ) → Option ℕ → Type 0
+IsFirstAtOnce known numbers at = InWorlds known numbers (λ m h. FirstIs known numbers (filter (is_at_once h) (enabled_steps (program_of m) h)) at)
 
 -- whether a step is enabled
 abbrev pub GoesOn : Known → (ℕ → ℕ) → Bool → Type 0

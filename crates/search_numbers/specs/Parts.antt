@@ -1,16 +1,19 @@
 -- What is kept of the places of worlds: their columns, what each part agrees with, and the steps that begin at places.
 use Rattle.std.specs.List.{AllByRecursion}
 use Rattle.std.specs.Map.{keys_of}
-use Rattle.std.specs.Prelude.{◌≡◌, ℕ, List, [], Option, Some, None, position, slice_get}
+use Rattle.std.specs.Prelude.{◌≡◌, ℕ, Bool, true, false, List, [], Option, Some, None, position, slice_get}
 use Rattle.core_tree.specs.Syntax.{ModuleTree}
 use Rattle.proc_machines.specs.Processes.{module_of}
+use Rattle.proc_signals.specs.Channels.{between}
 use Rattle.search_numbers.specs.declared.store.Part.{Part}
 use Rattle.term_core.specs.declared.step.Step.{Step}
 use Rattle.term_core.specs.declared.step.Step.TheVariants.{Turn, Deliver}
+use Rattle.tree_schedules.specs.Deliveries.{arrives_at_once}
 use Rattle.world_model.specs.Cells.{Contents}
 use Rattle.world_model.specs.Names.{IsAmong}
+use Rattle.world_model.specs.Signals.{first_of}
 use Rattle.world_records.specs.Places.{AgreesAt, AreOfOne, same_place}
-use Rattle.world_records.specs.Records.{Agrees, processes_of}
+use Rattle.world_records.specs.Records.{Agrees, channels_of, processes_of}
 use Rattle.world_records.specs.declared.place.Place.{Place}
 use Rattle.world_records.specs.declared.place.Place.TheVariants.{Course, Channel}
 use Rattle.world_records.specs.declared.records.Records.{Records}
@@ -56,6 +59,15 @@ abbrev pub step_at : Place → Option Step
 step_at (Course p) = Some (Turn p)
 step_at (Channel s r) = Some (Deliver s r)
 step_at place = None
+
+abbrev pub is_delivery : Step → Bool
+is_delivery (Turn p) = false
+is_delivery (Deliver s r) = true
+
+-- whether a step delivers a signal that arrives at once, by what is kept of its channel
+abbrev pub is_at_once_in : Records → Step → Bool
+is_at_once_in records (Turn p) = false
+is_at_once_in records (Deliver s r) = arrives_at_once (first_of (between (channels_of records) s r))
 
 -- each step that begins at a place is among these
 abbrev pub BeginAll : List Place → List (Step × ℕ) → Type 0

@@ -20,7 +20,7 @@ use Rattle.world_records.specs.Records.{Agrees}
 use Rattle.world_records.specs.declared.place.Place.{Place}
 use Rattle.world_records.specs.declared.place.Place.TheVariants.{Channel}
 use Rattle.world_records.specs.declared.records.Records.{Records}
-pub use Rattle.search_numbers.specs.Parts.{module_in, column_in, number_in, records_or, IsPart, HaveColumns, AreSomething, step_at, AllBegin, BeginAll, Begins, BeginsAt, EachBegins, Starts, HasMore}
+pub use Rattle.search_numbers.specs.Parts.{module_in, column_in, number_in, records_or, IsPart, HaveColumns, AreSomething, step_at, is_delivery, is_at_once_in, AllBegin, BeginAll, Begins, BeginsAt, EachBegins, Starts, HasMore}
 
 -- what a number stands for: 0 for what was before anything happened
 abbrev pub numbered : Store → ℕ → Records

@@ -44,6 +44,7 @@ fn place_of(cell: View<'_>) -> Result<Place, AllocError>
         View::OfName(NamePart::Holder, _) => Ok(Place::Names),
         View::OfName(NamePart::TableName, _) => Ok(Place::Tables),
         View::OfReference(ReferencePart::Watch, _) => Ok(Place::Watches),
+        View::OfReference(ReferencePart::Guard, _) => Ok(Place::Watches),
         View::OfReference(ReferencePart::Table, _) => Ok(Place::Tables),
         View::Row(_, _) | View::Rows(_) => Ok(Place::Tables),
     }

@@ -18,5 +18,5 @@ pub(crate) mod touch;
 pub use known::Known;
 pub use look::{Lasting, Look, Reader, Unknown};
 pub use row::Row;
-pub use steps::{enabled, first_delivery, goes_on};
+pub use steps::{enabled, first_at_once, goes_on};
 pub use store::Store;

@@ -3,10 +3,9 @@ ghost use Rattle.std.specs.Map.{keys_of};
 ghost use Rattle.std.specs.Prelude.{◌≡◌, false, List, IfOk, OnErr, OnOk, Some, slice_get};
 ghost use Rattle.search_numbers.specs.Rows.{numbers_in};
 ghost use Rattle.term_core.specs.declared.step.Step.{Step};
-ghost use Rattle.tree_schedules.specs.Deliveries.{is_delivery};
 ghost use Rattle.world_model.specs.Names.{IsAmong};
 ghost use Rattle.world_records.specs.declared.place.Place.{Place};
-ghost use Rattle.search_numbers.specs.Stored.{AreAsked, BeginsAt, EachBegins, Follows, HasMore, HaveColumns, IsIdle, IsStore, column_in, module_in, step_at};
+ghost use Rattle.search_numbers.specs.Stored.{AreAsked, BeginsAt, EachBegins, Follows, HasMore, HaveColumns, IsIdle, IsStore, column_in, is_at_once_in, is_delivery, module_in, numbered, step_at};
 
 use crate::row::number_in;
 use crate::store::Store;
@@ -15,6 +14,7 @@ use search_levels::Index;
 use std::alloc::{AllocError, Global};
 use std::collections::BTreeMap;
 use term_core::{Pid, Step};
+use tree_schedules::arrives_at_once;
 use world_records::{Place, Records};
 
 /// The step that begins at a place, if one does. `AllocError` where its copies can no longer be counted.
@@ -88,12 +88,26 @@ impl<'m> Store<'m> {
         Ok(())
     }
 
-    /// Whether the step that begins at the place of a column is a delivery: the place is a channel. It takes no memory.
-    pub(crate) fn is_channel(&self, column: usize) -> bool
+    // Whether the step that begins at the place of a column is a delivery: the place is a channel. It takes no memory.
+    fn is_channel(&self, column: usize) -> bool
         ensures { (s : Step) → BeginsAt self.now.places.items column s → result ≡ is_delivery s }
     {
         match self.places.get(column) {
             Some(Place::Channel(_, _)) => true,
+            _ => false,
+        }
+    }
+
+    /// Whether the step that begins at the place of a column delivers a signal that arrives at once, by what a world has at that
+    /// place. It takes no memory.
+    pub(crate) fn is_at_once(&self, row: &[u32], column: usize) -> bool
+        ensures { (s : Step) → BeginsAt self.now.places.items column s → result ≡ is_at_once_in (numbered self.now (numbers_in row.now column)) s }
+    {
+        match self.places.get(column) {
+            Some(Place::Channel(from, to)) => {
+                let kept = self.numbered(number_in(row, column));
+                arrives_at_once(kept.channels().front(from, to))
+            }
             _ => false,
         }
     }

@@ -1,6 +1,6 @@
 // The enabled steps of a world.
 ghost use Rattle.std.specs.Prelude.{IfOk};
-ghost use Rattle.search_numbers.specs.Knowing.{AreEnabled, AreRight, GoesOn, IsFirstDelivery, KnowsMore};
+ghost use Rattle.search_numbers.specs.Knowing.{AreEnabled, AreRight, GoesOn, IsFirstAtOnce, KnowsMore};
 ghost use Rattle.search_numbers.specs.Rows.{numbers_in};
 ghost use Rattle.search_numbers.specs.Stored.{IsWorldOf};
 
@@ -29,21 +29,21 @@ pub fn enabled<'m, L: Look<'m>>(
     Ok(enabled)
 }
 
-/// The place of what is remembered of the first delivery that is enabled in a world, if one is. `Unknown` where that is not
-/// told.
-pub fn first_delivery<'m, L: Look<'m>>(
+/// The place of what is remembered of the first enabled delivery in a world of a signal that arrives at once, if there is one.
+/// `Unknown` where that is not told.
+pub fn first_at_once<'m, L: Look<'m>>(
     alloc: Global,
     look: &mut L,
     row: &[u32],
 ) -> Result<Option<usize>, Unknown>
     requires world { IsWorldOf (L.seen look.old).store (numbers_in row.now) }
     requires right { AreRight (L.seen look.old) }
-    ensures first { IfOk result (λ place. IsFirstDelivery (L.seen look.new) (numbers_in row.now) place) }
+    ensures first { IfOk result (λ place. IsFirstAtOnce (L.seen look.new) (numbers_in row.now) place) }
     ensures knows { KnowsMore (L.seen look.old) (L.seen look.new) }
 {
     let asked = look.known().store.asked(alloc, row)?;
     for column in asked.as_slice() {
-        if look.known().store.is_channel(*column) {
+        if look.known().store.is_at_once(row, *column) {
             let at = look.look_up(alloc, row, *column)?;
             if look.known().is_enabled_at(at) {
                 return Ok(Some(at));

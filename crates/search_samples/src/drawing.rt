@@ -1,15 +1,16 @@
 // Which step comes next: one of those that may be taken, at random.
-ghost use Rattle.std.specs.Prelude.{◌≡◌, ◌∷◌, ◌<◌, [], List, MatchOption, length};
+ghost use Rattle.std.specs.Prelude.{◌≡◌, ◌∷◌, ◌<◌, [], false, List, MatchOption, length};
 ghost use Rattle.std.specs.List.{filter};
 ghost use Rattle.search_samples.specs.inside.Walks.{allowed};
 ghost use Rattle.term_core.specs.declared.step.Step.{Step as StepOf};
-ghost use Rattle.tree_schedules.specs.Deliveries.{is_delivery};
+ghost use Rattle.tree_schedules.specs.Deliveries.{is_at_once};
 ghost use Rattle.world_model.specs.Names.{IsAmong};
 
 use rand_core::Rng;
 use rand_pcg::Pcg32;
 use term_core::Step;
-use tree_schedules::Delivery;
+use tree_schedules::{Delivery, arrives_at_once};
+use world_core::World;
 
 // A number below another one, each as likely as the others: the word times that number, without its lower 32 bits.
 fn number_below(count: usize, generator: &mut Pcg32) -> usize
@@ -31,40 +32,44 @@ fn any_of<'s>(steps: &'s [Step], generator: &mut Pcg32) -> Option<&'s Step>
     Some(&steps[place])
 }
 
-// Whether a step is the delivery of a signal.
-fn is_delivery(step: &Step) -> bool
-    ensures { result ≡ is_delivery step.now }
+// Whether a step delivers a signal that arrives at once, in this world.
+fn is_at_once(world: &World<'_>, step: &Step) -> bool
+    requires { world.now.spent ≡ false }
+    ensures { result ≡ is_at_once world.now.history step.now }
 {
     match step {
         Step::Turn(_) => false,
-        Step::Deliver(_, _) => true,
+        Step::Deliver(from, to) => arrives_at_once(world.records().channels().front(from, to)),
     }
 }
 
-// The first delivery among steps, if there is one.
-fn first_delivery(steps: &[Step]) -> Option<&Step>
-    ensures { MatchOption result (filter is_delivery steps.now ≡ []) (λ step. (rest : List StepOf) × (filter is_delivery steps.now ≡ step.now ∷ rest)) }
+// The first of some steps that delivers such a signal, if there is one.
+fn first_at_once<'s>(world: &World<'_>, steps: &'s [Step]) -> Option<&'s Step>
+    requires { world.now.spent ≡ false }
+    ensures { MatchOption result (filter (is_at_once world.now.history) steps.now ≡ []) (λ step. (rest : List StepOf) × (filter (is_at_once world.now.history) steps.now ≡ step.now ∷ rest)) }
 {
     for step in steps {
-        if is_delivery(step) {
+        if is_at_once(world, step) {
             return Some(step);
         }
     }
     None
 }
 
-/// One of the steps that may be taken where these are enabled and signals are delivered so, at random; none where none is
-/// enabled.
+/// One of the steps that may be taken in a world where these are enabled and signals are delivered so, at random; none where
+/// none is enabled.
 pub(crate) fn drawn<'s>(
     delivery: Delivery,
+    world: &World<'_>,
     enabled: &'s [Step],
     generator: &mut Pcg32,
 ) -> Option<&'s Step>
-    ensures { MatchOption result (enabled.now ≡ []) (λ step. IsAmong step.now (allowed delivery enabled.now)) }
+    requires { world.now.spent ≡ false }
+    ensures { MatchOption result (enabled.now ≡ []) (λ step. IsAmong step.now (allowed delivery world.now.history enabled.now)) }
 {
     match delivery {
         Delivery::AnyTime => any_of(enabled, generator),
-        Delivery::AtOnce => match first_delivery(enabled) {
+        Delivery::AtOnce => match first_at_once(world, enabled) {
             Some(step) => Some(step),
             None => any_of(enabled, generator),
         },

@@ -1,5 +1,5 @@
 // One random schedule, followed to its end.
-ghost use Rattle.std.specs.Prelude.{◌≡◌, ◌∷◌, ◌++◌, [], Some, IfErr, IfOk, OnOk};
+ghost use Rattle.std.specs.Prelude.{◌≡◌, ◌∷◌, ◌++◌, [], false, Some, IfErr, IfOk, OnOk};
 ghost use Rattle.search_samples.specs.inside.Walks.{AddsOne};
 ghost use Rattle.tree_findings.specs.Laws.{AddsSchedule};
 ghost use Rattle.world_core.specs.Seen.{program_in};
@@ -30,6 +30,7 @@ fn visit(
     findings: &mut Findings,
 ) -> Result<Vec<Step>, WorldFault>
     ensures enabled { IfOk result (λ enabled. enabled.items ≡ enabled_steps (program_in world.now) world.now.history) }
+    ensures lives { IfOk result (λ _. world.now.spent ≡ false) }
     ensures adds { IfOk result (λ _. AddsSchedule (flags_in flags) schedule.now (shown (program_in world.now) world.now.history) findings.old findings.new) }
     ensures memory { IfErr result (λ fault. fault ≡ Memory) }
 {
@@ -73,7 +74,7 @@ pub(crate) fn follow(
     let mut schedule = Vec::new(alloc);
     let mut enabled = visit(alloc, samples.flags, &world, &[], findings)?;
     'steps: while (schedule.len() as u64) < samples.depth {
-        let Some(step) = drawn(samples.delivery, enabled.as_slice(), generator) else {
+        let Some(step) = drawn(samples.delivery, &world, enabled.as_slice(), generator) else {
             return Ok(());
         };
         take(alloc, &mut world, step, &mut schedule)?;

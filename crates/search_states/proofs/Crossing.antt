@@ -67,6 +67,7 @@ use Rattle.world_records.below.ets_tables.proofs.name_map.NameMap.TheSendSync as
 use Rattle.world_records.below.ets_tables.specs.contracts.registry.Registry as Registry
 use Rattle.world_records.below.ets_tables.specs.contracts.shelves.Shelves as Shelves
 use Rattle.world_records.below.proc_groups.proofs.groups.Groups.TheSendSync as groups
+use Rattle.world_records.below.proc_links.proofs.guards.Guards.TheSendSync as guards
 use Rattle.world_records.below.proc_links.proofs.links.Links.TheSendSync as links
 use Rattle.world_records.below.proc_links.proofs.names.Names.TheSendSync as names
 use Rattle.world_records.below.proc_links.proofs.watchers.Watchers.TheSendSync as watchers
@@ -251,10 +252,10 @@ mailboxes_sync : IsSync Mailboxes.the_row
 mailboxes_sync = view_sync _ _ _ _ _ (declared_sync MailboxesInside.the_type ((search (mailbox_map_send, mailbox_map_sync, crosses, maps.crosses, sendable) depth 20), tt))
 
 signal_send : IsSend Signal.the_row
-signal_send = variants_send Signal.enum ((term_send, tt), ((term_send, tt), ((term_send, tt), ((reference.the_send, (term_send, tt)), tt))))
+signal_send = variants_send Signal.enum ((term_send, tt), ((term_send, tt), ((term_send, tt), ((reference.the_send, (term_send, tt)), ((reference.the_send, (term_send, tt)), ((reference.the_send, (term_send, tt)), tt))))))
 
 signal_sync : IsSync Signal.the_row
-signal_sync = variants_sync Signal.enum ((term_sync, tt), ((term_sync, tt), ((term_sync, tt), ((reference.the_sync, (term_sync, tt)), tt))))
+signal_sync = variants_sync Signal.enum ((term_sync, tt), ((term_sync, tt), ((term_sync, tt), ((reference.the_sync, (term_sync, tt)), ((reference.the_sync, (term_sync, tt)), ((reference.the_sync, (term_sync, tt)), tt))))))
 
 queue_send : IsSend Queue.the_row
 queue_send = view_send _ _ _ _ _ (declared_send QueueInside.the_type (signal_send, ((search (signal_send, crosses, maps.crosses, sendable) depth 20), tt)))
@@ -339,10 +340,10 @@ tables_sync = declared_sync Tables.the_type (registry_sync, tt)
 -- ---- what is known
 
 records_send : (a : NamedLft) → IsSend (Records.the_row a)
-records_send a = declared_send (Records.the_type a) ((search (processes_send, crosses, maps.crosses, sendable) depth 20), (mailboxes_send, (channels_send, (links.the_send, (watchers.the_send, (names.the_send, (tables_send, tt)))))))
+records_send a = declared_send (Records.the_type a) ((search (processes_send, crosses, maps.crosses, sendable) depth 20), (mailboxes_send, (channels_send, (links.the_send, (watchers.the_send, (guards.the_send, (names.the_send, (tables_send, tt))))))))
 
 records_sync : (a : NamedLft) → IsSync (Records.the_row a)
-records_sync a = declared_sync (Records.the_type a) ((search (processes_sync, crosses, maps.crosses, sendable) depth 20), (mailboxes_sync, (channels_sync, (links.the_sync, (watchers.the_sync, (names.the_sync, (tables_sync, tt)))))))
+records_sync a = declared_sync (Records.the_type a) ((search (processes_sync, crosses, maps.crosses, sendable) depth 20), (mailboxes_sync, (channels_sync, (links.the_sync, (watchers.the_sync, (guards.the_sync, (names.the_sync, (tables_sync, tt))))))))
 
 part_sync : (a : NamedLft) → IsSync (Part.the_row a)
 part_sync a = declared_sync (Part.the_type a) (place.the_sync, ((search (records_send, records_sync, crosses, maps.crosses, sendable) depth 20), tt))

@@ -2,13 +2,13 @@
 use Rattle.std.proofs.Common.{◌≡◌, ◌∙◌, ◌++◌, ℕ, true, false, List, [], ◌∷◌, Some, None, Result, Ok, Err, OnOk, map, sym, ap, subst}
 use Rattle.std.specs.List.{filter}
 use Rattle.search_levels.specs.Arrivals.{AreArrivals, Arrived, of_module}
-use Rattle.tree_schedules.specs.Deliveries.{is_delivery}
+use Rattle.tree_schedules.specs.Deliveries.{is_at_once}
 use Rattle.tree_schedules.specs.declared.delivery.Delivery.TheVariants.{AnyTime, AtOnce}
 use Rattle.core_tree.specs.Syntax.{ModuleTree}
 use Rattle.search_levels.specs.declared.arrival.Arrival.{Arrival}
 use Rattle.search_numbers.proofs.Followed.{follows_on}
 use Rattle.search_numbers.proofs.Kept.{has_earlier}
-use Rattle.search_numbers.specs.Knowing.{GoesOn, IsFirstDelivery, IsTaken, KnowsMore}
+use Rattle.search_numbers.specs.Knowing.{GoesOn, IsFirstAtOnce, IsTaken, KnowsMore}
 use Rattle.search_numbers.specs.Local.{HasAll}
 use Rattle.search_numbers.specs.Rows.{numbers_in}
 use Rattle.search_numbers.specs.Stored.{IsWorldOf, part_at}
@@ -50,20 +50,20 @@ arrival_of before known numbers at row taken to more is same adds step enabled =
 
 -- ---- where signals are delivered at once
 
-pub first_arrives : (before known : Known) (numbers : ℕ → ℕ) (at : ℕ) (rs : List Arrived) → IsFirstDelivery before numbers (Some at) → KnowsMore before known → PutsAlone before known numbers at rs → AreArrivalsIn AtOnce known numbers rs
+pub first_arrives : (before known : Known) (numbers : ℕ → ℕ) (at : ℕ) (rs : List Arrived) → IsFirstAtOnce before numbers (Some at) → KnowsMore before known → PutsAlone before known numbers at rs → AreArrivalsIn AtOnce known numbers rs
 first_arrives before known numbers at rs first more alone later m h follows of =
     let a = program_of m in
     let steps = enabled_steps a h in
-    let one = one_prompt before numbers at (filter is_delivery steps) steps (first later.store m h (follows_on later.store known.store before.store follows more.follows) of) in
+    let one = one_prompt before numbers at (filter (is_at_once h) steps) steps (first later.store m h (follows_on later.store known.store before.store follows more.follows) of) in
     let is = alone.is one.0 one.1 in
     subst (AreArrivals AtOnce (of_module (IsKept later) m) a h) (sym alone.put) (record { steps = ap (λ s. s ∷ []) is.0 ∙ sym one.2; each = (is.1 later m h follows of, tt) })
 
-pub all_arrive : (before known : Known) (numbers : ℕ → ℕ) (rs : List Arrived) → IsFirstDelivery before numbers None → KnowsMore before known → AreArrivalsIn AnyTime known numbers rs → AreArrivalsIn AtOnce known numbers rs
+pub all_arrive : (before known : Known) (numbers : ℕ → ℕ) (rs : List Arrived) → IsFirstAtOnce before numbers None → KnowsMore before known → AreArrivalsIn AnyTime known numbers rs → AreArrivalsIn AtOnce known numbers rs
 all_arrive before known numbers rs none more all later m h follows of =
     let a = program_of m in
     let steps = enabled_steps a h in
     let are : AreArrivals AnyTime (of_module (IsKept later) m) a h rs = all later m h follows of in
-    record { steps = are.steps ∙ sym (all_prompt before numbers (filter is_delivery steps) steps (none later.store m h (follows_on later.store known.store before.store follows more.follows) of)); each = are.each }
+    record { steps = are.steps ∙ sym (all_prompt before numbers (filter (is_at_once h) steps) steps (none later.store m h (follows_on later.store known.store before.store follows more.follows) of)); each = are.each }
 
 -- what holds where a result is Ok
 pub on_ok : {X E A B : Type 0} (r : Result X E) → (A → B) → OnOk r A → OnOk r B

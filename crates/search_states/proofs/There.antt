@@ -2,7 +2,7 @@
 use Rattle.std.proofs.Common.{ℕ, List, [], ◌∷◌, Some, subst, sym}
 use Rattle.search_agenda.proofs.Putting.{all_append}
 use Rattle.std.specs.List.{AllByRecursion}
-use Rattle.search_numbers.specs.Knowing.{AreAt, AreEnabled, IsFirstDelivery, IsThere, KnowsMore}
+use Rattle.search_numbers.specs.Knowing.{AreAt, AreEnabled, IsFirstAtOnce, IsThere, KnowsMore}
 use Rattle.search_numbers.specs.Rows.{numbers_in}
 use Rattle.search_numbers.specs.Stored.{IsWorldOf}
 use Rattle.search_numbers.proofs.Kept.{world_later}
@@ -15,7 +15,7 @@ use Rattle.search_numbers.specs.declared.known.Known.{Known}
 use Rattle.search_numbers.proofs.Followed.{follows_itself, follows_on}
 use Rattle.search_states.proofs.Following.{one_prompt}
 use Rattle.term_core.specs.declared.step.Step.{Step}
-use Rattle.tree_schedules.specs.Deliveries.{is_delivery}
+use Rattle.tree_schedules.specs.Deliveries.{is_at_once}
 use Rattle.std.specs.List.{filter}
 use Rattle.world_model.specs.Asking.{program_of}
 use Rattle.world_model.specs.Run.{enabled_steps}
@@ -49,12 +49,12 @@ are_there known numbers places world are =
     let reached = world.reached in
     each_there known numbers (enabled_steps (program_of reached.tree) reached.history) places (are known.store reached.tree reached.history (follows_itself known.store) reached.are)
 
--- the first delivery
-pub first_there : (known : Known) (numbers : ℕ → ℕ) (at : ℕ) → IsWorldOf known.store numbers → IsFirstDelivery known numbers (Some at) → IsThere known numbers at
+-- the first delivery of a signal that arrives at once
+pub first_there : (known : Known) (numbers : ℕ → ℕ) (at : ℕ) → IsWorldOf known.store numbers → IsFirstAtOnce known numbers (Some at) → IsThere known numbers at
 first_there known numbers at world is =
     let reached = world.reached in
     let steps = enabled_steps (program_of reached.tree) reached.history in
-    let one = one_prompt known numbers at (filter is_delivery steps) steps (is known.store reached.tree reached.history (follows_itself known.store) reached.are) in
+    let one = one_prompt known numbers at (filter (is_at_once reached.history) steps) steps (is known.store reached.tree reached.history (follows_itself known.store) reached.are) in
     record { step = one.0; enabled = one.1 }
 
 -- ---- arrivals that can be read

@@ -6,7 +6,7 @@ ghost use Rattle.search_states.specs.inside.Keeping.{AddsDeadlockIn, AreArrivals
 ghost use Rattle.tree_schedules.specs.declared.delivery.Delivery.TheVariants.{AnyTime, AtOnce};
 
 use search_levels::{Arrival, Rows};
-use search_numbers::{Look, Row, Unknown, enabled, first_delivery, goes_on};
+use search_numbers::{Look, Row, Unknown, enabled, first_at_once, goes_on};
 use std::alloc::Global;
 use tree_schedules::Delivery;
 use world_core::push_deadlock;
@@ -132,8 +132,8 @@ fn arrival_alone<'m, L: Look<'m>>(
     )
 }
 
-// Puts what is after the steps that may be taken where signals are delivered at once: after the first delivery alone, or
-// where none is enabled after all steps. `Unknown` where that is not told.
+// Puts what is after the steps that may be taken where signals are delivered at once: after the first enabled delivery alone of
+// one that arrives at once, or where there is none after all steps. `Unknown` where that is not told.
 fn prompt_arrivals<'m, L: Look<'m>>(
     alloc: Global,
     look: &mut L,
@@ -146,7 +146,7 @@ fn prompt_arrivals<'m, L: Look<'m>>(
     ensures of_known { OnOk result (AreRead (L.seen look.new) into.new) }
     ensures knows { KnowsMore (L.seen look.old) (L.seen look.new) }
 {
-    match first_delivery(alloc, look, row)? {
+    match first_at_once(alloc, look, row)? {
         Some(at) => arrival_alone(alloc, look, row, digest, at, into),
         None => all_arrivals(alloc, look, row, digest, into),
     }

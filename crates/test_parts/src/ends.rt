@@ -87,7 +87,9 @@ fn write_signal(signal: &Signal, sink: &mut Output<Vec<u8>>) -> Result<(), Write
             write_all(sink, b" ")?;
             write_term(reason, sink)
         }
-        Signal::Message(_) | Signal::Exit(_) => write_all(sink, b" another"),
+        Signal::Message(_) | Signal::Exit(_) | Signal::Guarded(_, _) | Signal::Elapsed(_, _) => {
+            write_all(sink, b" another")
+        }
     }
 }
 

@@ -4,6 +4,8 @@
 #[cfg(test)]
 mod ends;
 #[cfg(test)]
+mod guards;
+#[cfg(test)]
 mod links;
 #[cfg(test)]
 mod sameness;

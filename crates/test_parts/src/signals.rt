@@ -33,7 +33,7 @@ fn send_numbers(
 fn is_message(signal: &Signal, number: i64) -> bool {
     match signal {
         Signal::Message(message) => *message == Term::Int(number),
-        Signal::Exit(_) | Signal::LinkExit(_) | Signal::Down(_, _) => false,
+        _ => false,
     }
 }
 

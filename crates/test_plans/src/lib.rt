@@ -2,6 +2,8 @@
 #![tactic(auto)]
 
 #[cfg(test)]
+mod guards;
+#[cfg(test)]
 mod lives;
 #[cfg(test)]
 mod plans;

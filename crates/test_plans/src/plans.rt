@@ -15,7 +15,7 @@ use world_plans::{
 use world_records::{Cell, Change, ChannelPart, NamePart, ProcessPart, Records, ReferencePart};
 
 // A line: what the first process begins with, what its turn does, the cells that it reads, and what it changes.
-type Line = (&'static str, &'static str, &'static str, &'static str);
+pub(crate) type Line = (&'static str, &'static str, &'static str, &'static str);
 
 const TO_ITSELF: [Line; 7] = [
     (
@@ -159,7 +159,7 @@ const WITHOUT_CALLS: [Line; 4] = [
 ];
 
 // The module whose first process begins with this.
-fn module_of(alloc: Global, call: &str) -> Result<Module, ReadFault> {
+pub(crate) fn module_of(alloc: Global, call: &str) -> Result<Module, ReadFault> {
     let front = "module 'm' ['main'/0] attributes [] 'main'/0 = fun () -> ";
     let mut text = String::from_str(alloc, front)?;
     text.push_str(call)?;
@@ -191,6 +191,7 @@ fn cell_word(cell: &Cell) -> &'static str {
         Cell::OfName(NamePart::Holder, _) => "Holder",
         Cell::OfName(NamePart::TableName, _) => "TableName",
         Cell::OfReference(ReferencePart::Watch, _) => "Watch",
+        Cell::OfReference(ReferencePart::Guard, _) => "Guard",
         Cell::OfReference(ReferencePart::Table, _) => "Table",
         Cell::Row(_, _) => "Row",
         Cell::Rows(_) => "Rows",
@@ -228,6 +229,9 @@ fn change_word(change: &Change) -> &'static str {
         Change::LinkRemoved(_, _) => "LinkRemoved",
         Change::WatchSet(_, _) => "WatchSet",
         Change::WatchCleared(_, _) => "WatchCleared",
+        Change::GuardSet(_, _) => "GuardSet",
+        Change::GuardCleared(_) => "GuardCleared",
+        Change::GuardUnwatched(_) => "GuardUnwatched",
         Change::NameRegistered(_, _) => "NameRegistered",
         Change::NameUnregistered(_, _) => "NameUnregistered",
         Change::NameCleared(_) => "NameCleared",
@@ -333,7 +337,12 @@ fn is_planned(alloc: Global, planned: &Planned, reads: &str, changes: &str) -> R
 }
 
 // Checks that a step does what its line says.
-fn does(alloc: Global, records: &Records<'_>, step: Step, line: &Line) -> Result<(), Fail> {
+pub(crate) fn does(
+    alloc: Global,
+    records: &Records<'_>,
+    step: Step,
+    line: &Line,
+) -> Result<(), Fail> {
     let (_call, want, reads, changes) = line;
     let Some(plan) = plan_step(records, alloc, step)? else {
         return Err(Fail::new(format_args!("no plan")));
@@ -353,7 +362,7 @@ pub(crate) fn pid_of(alloc: Global, number: u64) -> Result<Pid, AllocError> {
 }
 
 // The turn of the process of this number.
-fn turn_of(alloc: Global, number: u64) -> Result<Step, AllocError> {
+pub(crate) fn turn_of(alloc: Global, number: u64) -> Result<Step, AllocError> {
     Ok(Step::Turn(pid_of(alloc, number)?))
 }
 
@@ -363,7 +372,7 @@ fn delivery_to(alloc: Global, number: u64) -> Result<Step, AllocError> {
 }
 
 // Checks that each line results in what it says, each as the first turn of a new world.
-fn come_to(alloc: Global, lines: &[Line]) -> Result<(), Fail> {
+pub(crate) fn come_to(alloc: Global, lines: &[Line]) -> Result<(), Fail> {
     for line in lines {
         let (call, _want, _reads, _changes) = line;
         let program = module_of(alloc, call)?;
@@ -374,7 +383,7 @@ fn come_to(alloc: Global, lines: &[Line]) -> Result<(), Fail> {
 }
 
 // Plans a step and does it so.
-fn go(alloc: Global, records: &mut Records<'_>, step: Step) -> Result<(), Fail> {
+pub(crate) fn go(alloc: Global, records: &mut Records<'_>, step: Step) -> Result<(), Fail> {
     match plan_step(records, alloc, step)? {
         Some(plan) => {
             perform(records, alloc, &plan)?;

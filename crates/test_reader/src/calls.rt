@@ -25,6 +25,14 @@ call 'erlang':'unregister'(1)
 call 'erlang':'whereis'(1)
 call 'erlang':'is_process_alive'(1)
 call 'erlang':'make_ref'()
+call 'erlang':'monitor'(1,2,3)
+call 'erlang':'alias'()
+call 'erlang':'alias'(1)
+call 'erlang':'unalias'(1)
+call 'erlang':'start_timer'(1,2,3)
+call 'erlang':'send_after'(1,2,3)
+call 'erlang':'cancel_timer'(1)
+call 'erlang':'read_timer'(1)
 call 'ets':'new'(1,2)
 call 'ets':'lookup'(1,2)
 call 'ets':'member'(1,2)
@@ -123,6 +131,15 @@ module 'm' ['main'/0] attributes [] 'main'/0 = fun () -> call 'erlang':'demonito
 module 'm' ['main'/0] attributes [] 'main'/0 = fun () -> call 'erlang':'make_ref'(1) end
 
 8 UnsupportedCall at 57
+module 'm' ['main'/0] attributes [] 'main'/0 = fun () -> call 'erlang':'monitor'(1,2,3,4) end
+
+8 UnsupportedCall at 57
+module 'm' ['main'/0] attributes [] 'main'/0 = fun () -> call 'erlang':'start_timer'(1,2) end
+
+8 UnsupportedCall at 57
+module 'm' ['main'/0] attributes [] 'main'/0 = fun () -> call 'erlang':'cancel_timer'(1,2) end
+
+8 UnsupportedCall at 57
 module 'm' ['main'/0] attributes [] 'main'/0 = fun () -> call 'ets':'delete'() end
 
 8 UnsupportedCall at 57
@@ -148,6 +165,9 @@ module 'm' ['main'/0] attributes [] 'main'/0 = fun () -> call 'm':'link'(1) end
 
 9 EffectInGuard at 76
 module 'm' ['main'/0] attributes [] 'main'/0 = fun () -> case 1 of <X> when call 'erlang':'make_ref'() -> 1 end end
+
+9 EffectInGuard at 76
+module 'm' ['main'/0] attributes [] 'main'/0 = fun () -> case 1 of <X> when call 'erlang':'unalias'(X) -> 1 end end
 
 9 EffectInGuard at 76
 module 'm' ['main'/0] attributes [] 'main'/0 = fun () -> case 1 of <X> when call 'erlang':'!'(X,1) -> 1 end end

@@ -303,8 +303,9 @@ atom '_' stands for any term: {'error','_'}. What --normal, --main-deadlock or
 --idle-servers takes as normal is still listed, as normal, and does not count as
 an error. With --idle-servers, messages in the mailboxes of processes that wait
 are an error of their own, where P has ended and no step is enabled.
-With --at-once no process takes a turn while a delivery is enabled, and the first
-delivery comes next.
+With --at-once no process takes a turn while a signal is on its way to a process
+that lives, and the first such delivery comes next. The message of a timer may
+come at any time after.
 With --format terms the report is Erlang terms, one a line, as `file:consult/1`
 reads them. They hold what --explain shows.
 

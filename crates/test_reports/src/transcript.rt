@@ -251,3 +251,21 @@ fn prints_signals_that_are_delivered(rt: HostRuntime) -> Result<(), Fail> {
     let down = Signal::Down(reference(alloc)?, a);
     brings(alloc, down, put, b"5 P>P.2 down #P.1 -> 'a'\n")
 }
+
+#[test]
+fn prints_messages_by_aliases_and_timers(rt: HostRuntime) -> Result<(), Fail> {
+    let alloc = rt.alloc();
+    let a = Term::atom(alloc, "a")?;
+    let guarded = Signal::Guarded(reference(alloc)?, a.copy()?);
+    let line = b"5 P>P.2 brings 'a' by alias #P.1\n";
+    brings(alloc, guarded, Effect::Put(a.copy()?), line)?;
+    let guarded = Signal::Guarded(reference(alloc)?, a.copy()?);
+    let line = b"5 P>P.2 brings 'a' by alias #P.1 -> dropped\n";
+    brings(alloc, guarded, Effect::Dropped, line)?;
+    let elapsed = Signal::Elapsed(reference(alloc)?, a.copy()?);
+    let line = b"5 P>P.2 brings 'a' by timer #P.1\n";
+    brings(alloc, elapsed, Effect::Put(a.copy()?), line)?;
+    let elapsed = Signal::Elapsed(reference(alloc)?, a);
+    let line = b"5 P>P.2 brings 'a' by timer #P.1 -> dropped\n";
+    brings(alloc, elapsed, Effect::Dropped, line)
+}

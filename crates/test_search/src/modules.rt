@@ -54,6 +54,10 @@ pub(crate) const TWO_SENDERS: &str =
 pub(crate) const ONESELF: &str =
     "module 'm' ['main'/0,'a'/1] attributes [] 'main'/0 = fun () -> let <Me> = call 'erlang':'self'() in do call 'erlang':'spawn'('m','a',[Me]) do call 'erlang':'!'(Me,'own') receive <X> when 'true' -> call 'erlang':'exit'(X) after 'infinity' -> 'x' 'a'/1 = fun (To) -> call 'erlang':'!'(To,'other') end";
 
+/// A process that starts a timer for itself, and cancels it or takes its message.
+pub(crate) const TIMED: &str =
+    "module 'm' ['main'/0] attributes [] 'main'/0 = fun () -> let <T> = call 'erlang':'send_after'(5,call 'erlang':'self'(),'late') in case call 'erlang':'cancel_timer'(T) of <5> when 'true' -> call 'erlang':'exit'('cancelled') <N> when 'true' -> receive <X> when 'true' -> call 'erlang':'exit'(X) after 'infinity' -> 'x' end end";
+
 /// A process that is killed, and is sent a message by one that is told of it.
 pub(crate) const KILL: &str =
     "module 'm' ['main'/0,'w'/0,'k'/1] attributes [] 'main'/0 = fun () -> let <W> = call 'erlang':'spawn'('m','w',[]) in let <K> = call 'erlang':'spawn'('m','k',[W]) in do call 'erlang':'exit'(W,'kill') call 'erlang':'!'(K,'go') 'w'/0 = fun () -> receive <'x'> when 'true' -> call 'erlang':'exit'('taken') after 'infinity' -> 'x' 'k'/1 = fun (W) -> receive <'go'> when 'true' -> call 'erlang':'!'(W,'x') after 'infinity' -> 'x' end";

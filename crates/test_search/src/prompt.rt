@@ -1,5 +1,5 @@
 // Schedules in which signals are delivered at once, beside those in which they take any time.
-use crate::modules::{EXPLORED, HEIR, KILL, LINE, LINK, ONESELF, TWO_SENDERS};
+use crate::modules::{EXPLORED, HEIR, KILL, LINE, LINK, ONESELF, TIMED, TWO_SENDERS};
 use crate::states::{STATES, complete, followed, listed};
 use core_reader::{Module, read_module};
 use std::alloc::Global;
@@ -25,6 +25,13 @@ const OWN: Row = (
     ONESELF,
     "depth 60, nodes 0, complete\nerror 1: P ends 'other'\n  P P.1 P.1>P P P P\nerror 2: P ends 'own'\n  P P P P\nerrors 2, refusals 0\nresult: errors\n",
     "depth 60, nodes 0, complete\nerror 1: P ends 'other'\n  P P.1 P.1>P P P P\nerror 2: P ends 'own'\n  P P P P\nerrors 2, refusals 0\nresult: errors\n",
+);
+
+// The message of a timer may come before it is cancelled, or not.
+const ELAPSED: Row = (
+    TIMED,
+    "depth 60, nodes 0, complete\nerror 1: P ends 'cancelled'\n  P P P\nerror 2: P ends 'late'\n  P P.1>P P P P\nerrors 2, refusals 0\nresult: errors\n",
+    "depth 60, nodes 0, complete\nerror 1: P ends 'cancelled'\n  P P P\nerror 2: P ends 'late'\n  P P.1>P P P P\nerrors 2, refusals 0\nresult: errors\n",
 );
 
 // Who is killed takes no message that is sent later.
@@ -77,6 +84,11 @@ fn messages_of_two_senders_come_as_they_were_sent(rt: HostRuntime) -> Result<(),
 #[test]
 fn a_message_to_oneself_is_there_at_once(rt: HostRuntime) -> Result<(), Fail> {
     shows(&rt, rt.alloc(), OWN)
+}
+
+#[test]
+fn a_timer_comes_at_any_time(rt: HostRuntime) -> Result<(), Fail> {
+    shows(&rt, rt.alloc(), ELAPSED)
 }
 
 #[test]

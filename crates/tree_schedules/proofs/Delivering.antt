@@ -4,7 +4,7 @@ use Rattle.term_core.specs.declared.step.Step.{Step}
 use Rattle.tree_coverage.specs.Shown.{RunShows}
 use Rattle.tree_coverage.proofs.Instance.{choice_laws, take}
 use Rattle.tree_coverage.proofs.Lists.{from_theory, kept_passes}
-use Rattle.tree_schedules.specs.Deliveries.{DeliversBy, first_or_all, is_delivery, prompt_steps, steps_by}
+use Rattle.tree_schedules.specs.Deliveries.{DeliversBy, first_or_all, is_at_once, prompt_steps, steps_by}
 use Rattle.tree_schedules.specs.Schedules.{IsEverShownBy, IsShownBy}
 use Rattle.tree_schedules.specs.declared.delivery.Delivery.{Delivery}
 use Rattle.tree_schedules.specs.declared.delivery.Delivery.TheVariants.{AnyTime, AtOnce}
@@ -27,7 +27,7 @@ first_is_kept (d ∷ ds) es x of (inr never) = absurd never
 
 pub steps_enabled : (d : Delivery) (a : Program) (h : History) (x : Step) → IsAmong x (steps_by d a h) → IsAmong x (enabled_steps a h)
 steps_enabled AnyTime a h x there = there
-steps_enabled AtOnce a h x there = first_is_kept (filter is_delivery (enabled_steps a h)) (enabled_steps a h) x (λ y kept. (kept_passes is_delivery (enabled_steps a h) y kept).1) there
+steps_enabled AtOnce a h x there = first_is_kept (filter (is_at_once h) (enabled_steps a h)) (enabled_steps a h) x (λ y kept. (kept_passes (is_at_once h) (enabled_steps a h) y kept).1) there
 
 -- some step may be taken exactly where one is enabled
 none_by : (ds es : List Step) → first_or_all ds es ≡ [] → es ≡ []
@@ -36,7 +36,7 @@ none_by (d ∷ ds) es e = absurd cc
 
 pub some_step_by : (d : Delivery) (a : Program) (h : History) → (steps_by d a h ≡ []) ↔ (enabled_steps a h ≡ [])
 some_step_by AnyTime a h = (λ e. e, λ e. e)
-some_step_by AtOnce a h = (none_by (filter is_delivery (enabled_steps a h)) (enabled_steps a h), λ e. ap (λ es. first_or_all (filter is_delivery es) es) e)
+some_step_by AtOnce a h = (none_by (filter (is_at_once h) (enabled_steps a h)) (enabled_steps a h), λ e. ap (λ es. first_or_all (filter (is_at_once h) es) es) e)
 
 -- ---- runs of one more step
 

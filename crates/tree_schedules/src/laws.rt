@@ -1,10 +1,11 @@
 // The laws of all schedules, by when signals are delivered in them.
 ghost use Rattle.tree_schedules.specs.Schedules.{AllAreListed, ErrorsAreOfAll, RefusalsAreOfAll, ErrorsAreLeast, RefusalsAreLeast, TreesFindTheSame, PromptErrorsAreErrors};
 ghost use Rattle.tree_schedules.specs.Deliveries.{PromptStepsAreLeast};
-ghost use Rattle.tree_schedules.specs.PromptExamples.{FirstDeliveryIsTaken, KillIsDelivered, KillMayWait, TurnsAreTaken};
+ghost use Rattle.tree_schedules.specs.PromptExamples.{FirstDeliveryIsTaken, KillIsDelivered, KillMayWait, OtherSignalComesFirst, TimerIsNoHurry, TurnsAreTaken};
 ghost use Rattle.tree_schedules.specs.StandIns.{StandInsFindAll};
 
-/// Where signals are delivered at once, what may be taken is the least delivery that is enabled, or each turn where none is.
+/// Where signals are delivered at once, what may be taken is the least enabled delivery of a signal that arrives at once, or
+/// each enabled step where none is.
 pub fn prompt_steps_are_least()
     ensures { PromptStepsAreLeast }
 {}
@@ -35,6 +36,8 @@ pub fn stand_ins_find_all()
 pub fn prompt_schedules_are_computed()
     ensures first { FirstDeliveryIsTaken }
     ensures turns { TurnsAreTaken }
+    ensures timer { TimerIsNoHurry }
+    ensures other { OtherSignalComesFirst }
     ensures delivered { KillIsDelivered }
     ensures waits { KillMayWait }
 {}

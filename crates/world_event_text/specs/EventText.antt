@@ -6,7 +6,7 @@ use Rattle.term_core.specs.Text.{text_of_step}
 use Rattle.term_core.specs.TermText.{text_of_term, text_of_reference}
 use Rattle.core_calls.specs.declared.call.CallKind.{CallKind}
 use Rattle.world_model.specs.Names.{Ref}
-use Rattle.world_model.specs.Events.{Signal, Message, Exit, LinkExit, Down, Fate, Arrives, IsIgnored, IsDropped, Kills, Refusal, Badarg, NoProcess, ByRule, Deed, Served, Refused, EndedItself, Received, TimedOut, Ended, RanAway, Delivered, Event, History}
+use Rattle.world_model.specs.Events.{Signal, Message, Exit, LinkExit, Down, Guarded, Elapsed, Fate, Arrives, IsIgnored, IsDropped, Kills, Refusal, Badarg, NoProcess, ByRule, Deed, Served, Refused, EndedItself, Received, TimedOut, Ended, RanAway, Delivered, Event, History}
 use Rattle.world_event_text.specs.CallText.{text_of_call, text_of_broken_rule}
 
 -- the end of a process with this reason
@@ -46,17 +46,32 @@ text_of_fate IsIgnored = codes "ignored"
 text_of_fate IsDropped = codes "dropped"
 text_of_fate (Kills reason) = text_of_end reason
 
+-- and that after an arrow
+abbrev pub after_arrow : Fate → List ℕ
+after_arrow fate = codes " -> " ++ text_of_fate fate
+
 -- a message
 abbrev pub text_of_message : Meaning → List ℕ
 text_of_message message = codes "brings " ++ text_of_term message
 
 -- an exit signal, of `exit/2` or of a link
 abbrev pub text_of_exit : Meaning → Fate → List ℕ
-text_of_exit reason fate = codes "exit " ++ (text_of_term reason ++ (codes " -> " ++ text_of_fate fate))
+text_of_exit reason fate = codes "exit " ++ (text_of_term reason ++ after_arrow fate)
 
 -- that a watched process ended, by the reference of the watch
 abbrev pub text_of_down : Ref → Fate → List ℕ
-text_of_down ref fate = codes "down " ++ (text_of_reference ref.pid ref.number ++ (codes " -> " ++ text_of_fate fate))
+text_of_down ref fate = codes "down " ++ (text_of_reference ref.pid ref.number ++ after_arrow fate)
+
+-- what became of a message, where it did not come into the mailbox
+abbrev pub text_unless_put : Fate → List ℕ
+text_unless_put (Arrives message) = []
+text_unless_put IsIgnored = after_arrow IsIgnored
+text_unless_put IsDropped = after_arrow IsDropped
+text_unless_put (Kills reason) = after_arrow (Kills reason)
+
+-- a message by an alias or a timer, as the words say, with its reference
+abbrev pub text_of_guarded : List ℕ → Ref → Meaning → Fate → List ℕ
+text_of_guarded words ref message fate = text_of_message message ++ (words ++ (text_of_reference ref.pid ref.number ++ text_unless_put fate))
 
 -- a signal, and what became of it
 abbrev pub text_of_delivered : Signal → Fate → List ℕ
@@ -64,6 +79,8 @@ text_of_delivered (Message message) fate = text_of_message message
 text_of_delivered (Exit reason) fate = text_of_exit reason fate
 text_of_delivered (LinkExit reason) fate = text_of_exit reason fate
 text_of_delivered (Down ref reason) fate = text_of_down ref fate
+text_of_delivered (Guarded ref message) fate = text_of_guarded (codes " by alias ") ref message fate
+text_of_delivered (Elapsed ref message) fate = text_of_guarded (codes " by timer ") ref message fate
 
 -- ---- events
 

@@ -7,7 +7,7 @@ ghost use Rattle.proc_signals.specs.Signal.{signal_of};
 ghost use Rattle.world_model.specs.Names.{ref_of};
 ghost use Rattle.world_planned.specs.Replies.{refusal_in};
 ghost use Rattle.world_footprints.specs.Deeds.{deed_in, event_in};
-ghost use Rattle.world_event_text.specs.EventText.{text_of_end, text_of_answer, text_of_refusal, text_of_refused, text_of_last_call, text_of_received, text_of_fate, text_of_message, text_of_exit, text_of_down, text_of_delivered, text_of_deed, text_of_event};
+ghost use Rattle.world_event_text.specs.EventText.{text_of_end, text_of_answer, text_of_refusal, text_of_refused, text_of_last_call, text_of_received, text_of_fate, after_arrow, text_of_message, text_of_exit, text_of_down, text_unless_put, text_of_guarded, text_of_delivered, text_of_deed, text_of_event};
 
 use crate::call_text::{write_broken_rule, write_call};
 use core_tree::CallKind;
@@ -152,6 +152,12 @@ fn write_delivered<W: Sink>(
         Signal::Exit(reason) => write_exit(sink, reason, effect),
         Signal::LinkExit(reason) => write_exit(sink, reason, effect),
         Signal::Down(reference, _) => write_down(sink, reference, effect),
+        Signal::Guarded(reference, message) => {
+            write_guarded(sink, b" by alias ", reference, message, effect)
+        }
+        Signal::Elapsed(reference, message) => {
+            write_guarded(sink, b" by timer ", reference, message, effect)
+        }
     }
 }
 
@@ -171,8 +177,7 @@ fn write_exit<W: Sink>(sink: &mut W, reason: &Term, effect: &Effect) -> Result<(
 {
     write_all(sink, b"exit ")?;
     write_term(reason, sink)?;
-    write_all(sink, b" -> ")?;
-    write_effect(sink, effect)
+    write_after_arrow(sink, effect)
 }
 
 // Writes that a watched process ended, by the reference of the watch, and what became of that signal.
@@ -182,6 +187,43 @@ fn write_down<W: Sink>(sink: &mut W, reference: &RefId, effect: &Effect) -> Resu
 {
     write_all(sink, b"down ")?;
     write_reference(reference, sink)?;
+    write_after_arrow(sink, effect)
+}
+
+// Writes a message by an alias or a timer, as the words say, with its reference; and what became of the message where it
+// did not come into the mailbox.
+fn write_guarded<W: Sink>(
+    sink: &mut W,
+    words: &[u8],
+    reference: &RefId,
+    message: &Term,
+    effect: &Effect,
+) -> Result<(), WriteFault>
+    requires { W.has_failed sink.old ≡ false }
+    ensures { Writes (W.contents sink.old) (W.contents sink.new) (W.has_failed sink.new) result (text_of_guarded words.now (ref_of reference.now) (meaning_of message.now) (fate_in effect.now)) }
+{
+    write_message(sink, message)?;
+    write_all(sink, words)?;
+    write_reference(reference, sink)?;
+    write_unless_put(sink, effect)
+}
+
+// Writes what became of a message where it did not come into the mailbox.
+fn write_unless_put<W: Sink>(sink: &mut W, effect: &Effect) -> Result<(), WriteFault>
+    requires { W.has_failed sink.old ≡ false }
+    ensures { Writes (W.contents sink.old) (W.contents sink.new) (W.has_failed sink.new) result (text_unless_put (fate_in effect.now)) }
+{
+    match effect {
+        Effect::Put(_) => Ok(()),
+        Effect::Ends(_) | Effect::Ignored | Effect::Dropped => write_after_arrow(sink, effect),
+    }
+}
+
+// Writes what became of a signal after an arrow.
+fn write_after_arrow<W: Sink>(sink: &mut W, effect: &Effect) -> Result<(), WriteFault>
+    requires { W.has_failed sink.old ≡ false }
+    ensures { Writes (W.contents sink.old) (W.contents sink.new) (W.has_failed sink.new) result (after_arrow (fate_in effect.now)) }
+{
     write_all(sink, b" -> ")?;
     write_effect(sink, effect)
 }

@@ -56,7 +56,7 @@ others_of_turn v p RanAway = left_by (changed (AliveCleared p) v) p runaway
 others_of_turn v p (Delivered signal fate) = []
 
 abbrev pub others_of_delivery : Contents → Pid → Pid → Deed → List Change
-others_of_delivery v s r (Delivered signal fate) = goes_with s r signal ++ changes_of_fate (after (goes_with s r signal) v) r fate
+others_of_delivery v s r (Delivered signal fate) = goes_with v s r signal ++ changes_of_fate (after (goes_with v s r signal) v) r fate
 others_of_delivery v s r deed = []
 
 abbrev pub other_changes : Contents → Step → Deed → List Change

@@ -89,6 +89,7 @@ fn kind_of_reference(part: ReferencePart) -> u64
 {
     match part {
         ReferencePart::Watch => 13,
+        ReferencePart::Guard => 13,
         ReferencePart::Table => 14,
     }
 }
@@ -102,7 +103,8 @@ fn place_of(kind: u64, class: u64) -> u64
     kind + 16 * class
 }
 
-/// The place of a cell in a mask, from 0 to 63. A row and all rows of its table have one place. It takes no memory.
+/// The place of a cell in a mask, from 0 to 63. A row and all rows of its table have one place, and so
+/// have the watch and the guard of a reference. It takes no memory.
 pub(crate) fn place_in_mask(cell: View<'_>) -> u64
     ensures value { result ≡ place_in_mask (view_in cell.entry) }
     ensures small { result < 64 }

@@ -66,6 +66,7 @@ fn place_of_reference(part: ReferencePart) -> u8
     match part {
         ReferencePart::Watch => 0,
         ReferencePart::Table => 1,
+        ReferencePart::Guard => 2,
     }
 }
 

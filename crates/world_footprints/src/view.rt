@@ -141,6 +141,9 @@ pub fn changed_cells(change: &Change) -> Views<'_>
             of_both(ProcessPart::Links, pid, ProcessPart::Links, other)
         }
         Change::WatchSet(id, target) | Change::WatchCleared(id, target) => of_watch(id, target),
+        Change::GuardSet(id, _) | Change::GuardCleared(id) | Change::GuardUnwatched(id) => {
+            of_reference(ReferencePart::Guard, id)
+        }
         Change::NameRegistered(name, pid) | Change::NameUnregistered(name, pid) => of_holder(
             name, pid,
         ),

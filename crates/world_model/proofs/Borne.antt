@@ -20,13 +20,13 @@ use Rattle.world_model.specs.Signals.{goes_with}
 use Rattle.world_model.specs.Steps.{changes_of_fate, changes_by, runaway}
 use Rattle.world_model.specs.ProcessHistory.{ended_in, is_it}
 use Rattle.world_model.specs.World.{contents}
-use Rattle.world_model.proofs.BondLaws.{holder_told, end_but_name, end_held, goes_held, goes_named_of}
+use Rattle.world_model.proofs.BondLaws.{holder_told, end_but_name, end_held}
 use Rattle.world_model.proofs.Commuting.{either_is, stays, follows}
 use Rattle.world_model.proofs.EndSorts.{after_both}
 use Rattle.world_model.proofs.Matching.{it_is, is_itself, no_other}
 use Rattle.world_model.proofs.Meeting.{pids_same}
 use Rattle.world_model.proofs.Served.{Unrefused, unrefused_in}
-use Rattle.world_model.proofs.SortLaws.{call_leaves, no_holder}
+use Rattle.world_model.proofs.SortLaws.{goes_off, call_leaves, no_holder}
 use Rattle.world_model.proofs.Sorts.{is_among, table_sorts}
 
 -- ---- names from both sides
@@ -145,9 +145,9 @@ event_match v (Turn p) (Ended reason) served before_ = end_match v _ p reason (�
 event_match v (Turn p) RanAway served before_ = end_match v _ p runaway (λ q. refl) before_
 event_match v (Turn p) (Delivered x f) served before_ = before_
 event_match v (Deliver s r) (Delivered x f) served before_ =
-    let ks = goes_with s r x in
+    let ks = goes_with v s r x in
     let w = changed (SignalDelivered s r) v in
-    let mid = match_same v (after ks w) (λ q. stays ks w (NameOf q) (goes_named_of s r q x)) (λ n. stays ks w (Holder n) (goes_held s r n x)) before_ in
+    let mid = match_same v (after ks w) (λ q. stays ks w (NameOf q) (goes_off v s r x (NameOf q) refl)) (λ n. stays ks w (Holder n) (goes_off v s r x (Holder n) refl)) before_ in
     match_same (after (changes_of_fate (after ks v) r f) (after ks w)) (after (changes_by v (Deliver s r) (Delivered x f)) v)
     (λ q. after_both ks (changes_of_fate (after ks v) r f) w (NameOf q)) (λ n. after_both ks (changes_of_fate (after ks v) r f) w (Holder n))
     (fate_match (after ks v) (after ks w) r f (λ q. follows ks w v (NameOf q) refl) mid)

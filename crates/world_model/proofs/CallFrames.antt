@@ -1,19 +1,20 @@
 -- The law of frames of each call: contents that agree on what its line reads give it the same line.
 use Rattle.std.proofs.Common.{◌∙◌, refl, ap, subst, sym}
-use Rattle.std.specs.Prelude.{if◌then◌else◌, ◌≡◌, ◌∷◌, Bool, true, false, Option, None, Some, [], List, codes}
+use Rattle.std.specs.Prelude.{if◌then◌else◌, ◌≡◌, ◌∷◌, Bool, true, false, Option, None, Some, [], List, codes, ℤ, option_map}
 use Rattle.term_core.specs.Meaning.{Meaning}
-use Rattle.world_model.specs.Calls.{Call, Spawn, Send, ToNobody, ToProcess, ToName, SendExit, Link, Unlink, Monitor, Demonitor, Flag, Register, Unregister, WhereIs, IsAlive, MakeRef, New, OnTable, Misfit}
-use Rattle.world_model.specs.Cells.{Contents, TableName, Holder, Machine, Trap, Alive, Front, Tail, Watch}
-use Rattle.world_model.specs.Changes.{TrapSet, is_of_watch}
+use Rattle.world_model.specs.Calls.{Call, Spawn, Send, ToNobody, ToProcess, ToName, ToReference, SendExit, Link, Unlink, Monitor, Demonitor, Flag, Register, Unregister, WhereIs, IsAlive, MakeRef, MakeAlias, Unalias, StartTimer, CancelTimer, ReadTimer, New, OnTable, Misfit}
+use Rattle.world_model.specs.Cells.{Contents, TableName, Holder, Machine, Trap, Alive, Front, Tail, Watch, Guard}
+use Rattle.world_model.specs.Changes.{TrapSet, GuardSet, is_of_watch}
 use Rattle.world_model.specs.Ends.{alive_if}
-use Rattle.world_model.specs.Events.{Message, Exit}
+use Rattle.world_model.specs.Events.{Message, Exit, Guarded}
 use Rattle.world_model.specs.Frames.{AgreeOn}
+use Rattle.world_model.specs.Guards.{Alias, aliased, is_alias_of, timer_in}
 use Rattle.world_model.specs.Lines.{line}
 use Rattle.world_model.specs.Mailboxes.{left_of, mailbox_in, selected_of, reads_to_pick}
 use Rattle.world_model.specs.Names.{Pid, same_pid, Name, Ref}
 use Rattle.world_model.specs.NewTables.{name_taken, new_reads, new_rule, new_line}
-use Rattle.world_model.specs.ProcessLines.{sent, read_of_target, exited, holder_read, sent_to_holder, unregister_line, register_line, spawn_line, serves, serves_unless, unless_held, link_line, link_way, monitor_line, ref_of_turn, badarg, demonitor_reads, demonitor_line}
-use Rattle.world_model.specs.Signals.{put_if}
+use Rattle.world_model.specs.ProcessLines.{sent, read_of_target, exited, holder_read, sent_to_holder, unregister_line, register_line, spawn_line, serves, serves_unless, unless_held, link_line, link_way, monitor_line, ref_of_turn, badarg, demonitor_reads, demonitor_line, alias_beside, send_line, unalias_line, timer_line, timer_reads, timer_ends, time_left, told_left}
+use Rattle.world_model.specs.Signals.{put_if, watch_if, reply_ends}
 use Rattle.world_model.specs.Tables.{TableOption, is_named}
 use Rattle.world_model.specs.Terms.{ok, truth, process_or, reference}
 use Rattle.world_model.specs.declared.rule.Rule.{Rule}
@@ -57,6 +58,31 @@ new_reads_are : (p : Pid) (t : Ref) (name : Name) (options : Option (List TableO
 new_reads_are p t name None rule = refl
 new_reads_are p t name (Some os) rule = refl
 
+-- ---- aliases and timers
+
+-- a reply ends a watch where it ends an alias
+pub reply_framed : (v w : Contents) (ref : Ref) (b : Bool) → AgreeOn v w (watch_if b ref) → reply_ends b ref (v (Watch ref)) ≡ reply_ends b ref (w (Watch ref))
+reply_framed v w ref true agree = ap (reply_ends true ref) agree.0.0
+reply_framed v w ref false agree = refl
+
+-- a line for each process that it may be an alias of
+by_alias : (v w : Contents) (p : Pid) (ref : Ref) (m : Meaning) (o : Option Pid) → AgreeOn v w (send_line v p ref o m).reads → send_line v p ref o m ≡ send_line w p ref o m
+by_alias v w p ref m None agree = refl
+by_alias v w p ref m (Some to) agree = λ i. serves (Guard ref ∷ Alive to ∷ []) m (put_if (agree.1.0.0 i) p to (Guarded ref m))
+
+alias_guard : (v w : Contents) (p : Pid) (ref : Ref) (m : Meaning) (o : Option Pid) → AgreeOn v w (send_line v p ref o m).reads → v (Guard ref) ≡ w (Guard ref)
+alias_guard v w p ref m None agree = agree.0.0
+alias_guard v w p ref m (Some to) agree = agree.0.0
+
+send_framed : (v w : Contents) (p : Pid) (ref : Ref) (m : Meaning) (o : Option Pid) → aliased (v (Guard ref)) ≡ o → AgreeOn v w (send_line v p ref o m).reads → send_line v p ref o m ≡ send_line w p ref (aliased (w (Guard ref))) m
+send_framed v w p ref m o is agree =
+    let guard = alias_guard v w p ref m o agree in
+    by_alias v w p ref m o agree ∙ ap (λ x. send_line w p ref x m) (sym is ∙ ap aliased guard)
+
+left_framed : (v w : Contents) (timer : Option (Pid × ℤ)) → AgreeOn v w (alive_if (option_map (λ it. it.0) timer)) → time_left v timer ≡ time_left w timer
+left_framed v w None agree = refl
+left_framed v w (Some timer) agree = ap (λ lives. if lives then Some timer.1 else None) agree.0.0
+
 -- ---- the lines
 
 -- whichever process holds the name, it is read
@@ -72,6 +98,7 @@ call_framed v w p (Spawn way None) machine agree = refl
 call_framed v w p (Spawn way (Some origin)) machine agree = ap (spawn_line way origin p) machine
 call_framed v w p (Send ToNobody m) machine agree = refl
 call_framed v w p (Send (ToProcess q) m) machine agree = ap (serves (read_of_target (same_pid p q) p q) m) (sent_framed v w p q m (same_pid p q) agree)
+call_framed v w p (Send (ToReference ref) m) machine agree = send_framed v w p ref m (aliased (v (Guard ref))) refl agree
 call_framed v w p (Send (ToName name) m) machine agree =
     let holder = agree.0.0 in
     λ i. serves_unless (unless_held (holder i)) (Holder name ∷ holder_read p (holder i)) m ((holder_framed v w p (v (Holder name)) m agree.1 ∙ ap (λ o. sent_to_holder w p o m) holder) i)
@@ -81,9 +108,10 @@ call_framed v w p (Link None) machine agree = refl
 call_framed v w p (Link (Some q)) machine agree = λ i. link_line p q (link_way p q (agree.1.1.0.0 i) (agree.0.0 i) (agree.1.0.0 i))
 call_framed v w p (Unlink None) machine agree = refl
 call_framed v w p (Unlink (Some q)) machine agree = refl
-call_framed v w p (Monitor is_process None) machine agree = refl
-call_framed v w p (Monitor false (Some q)) machine agree = refl
-call_framed v w p (Monitor true (Some q)) machine agree = λ i. monitor_line p q (ref_of_turn p (machine i)) (agree.0.0 i)
+call_framed v w p (Monitor is_process None alias) machine agree = refl
+call_framed v w p (Monitor false (Some q) alias) machine agree = refl
+call_framed v w p (Monitor true (Some q) None) machine agree = refl
+call_framed v w p (Monitor true (Some q) (Some alias)) machine agree = λ i. monitor_line p q (ref_of_turn p (machine i)) (agree.0.0 i) (alias_beside (same_pid p q) alias)
 call_framed v w p (Demonitor None flushes) machine agree = refl
 call_framed v w p (Demonitor (Some ref) None) machine agree = λ i. badarg (demonitor_reads ref (agree.0.0 i))
 call_framed v w p (Demonitor (Some ref) (Some false)) machine agree = λ i. demonitor_line p ref false (agree.0.0 i) None
@@ -103,6 +131,21 @@ call_framed v w p (WhereIs (Some name)) machine agree = λ i. serves (Holder nam
 call_framed v w p (IsAlive None) machine agree = refl
 call_framed v w p (IsAlive (Some q)) machine agree = λ i. serves (Alive q ∷ Front p q ∷ Tail p q ∷ []) (truth (agree.0.0 i)) []
 call_framed v w p MakeRef machine agree = λ i. serves [] (reference (ref_of_turn p (machine i))) []
+call_framed v w p (MakeAlias None) machine agree = refl
+call_framed v w p (MakeAlias (Some end)) machine agree = λ i. serves [] (reference (ref_of_turn p (machine i))) (GuardSet (ref_of_turn p (machine i)) (Alias p end) ∷ [])
+call_framed v w p (Unalias None) machine agree = refl
+call_framed v w p (Unalias (Some ref)) machine agree = λ i. unalias_line ref (is_alias_of p (agree.0.0 i))
+call_framed v w p (StartTimer is_named time None m) machine agree = refl
+call_framed v w p (StartTimer is_named None (Some q) m) machine agree = refl
+call_framed v w p (StartTimer is_named (Some time) (Some q) m) machine agree = λ i. timer_line p (machine i) is_named time q (agree.0.0 i) m
+call_framed v w p (CancelTimer None) machine agree = refl
+call_framed v w p (CancelTimer (Some ref)) machine agree =
+    let left = left_framed v w (timer_in (v (Guard ref))) agree.1 ∙ ap (λ guard. time_left w (timer_in guard)) agree.0.0 in
+    λ i. serves (timer_reads ref (timer_in (agree.0.0 i))) (told_left (left i)) (timer_ends ref (timer_in (agree.0.0 i)))
+call_framed v w p (ReadTimer None) machine agree = refl
+call_framed v w p (ReadTimer (Some ref)) machine agree =
+    let left = left_framed v w (timer_in (v (Guard ref))) agree.1 ∙ ap (λ guard. time_left w (timer_in guard)) agree.0.0 in
+    λ i. serves (timer_reads ref (timer_in (agree.0.0 i))) (told_left (left i)) []
 call_framed v w p (New None options) machine agree = refl
 call_framed v w p (New (Some name) options) machine agree =
     let rule = new_framed v w name options (subst (AgreeOn v w) (new_reads_are p (ref_of_turn p (v (Machine p))) name options (new_rule options (v (TableName name)))) agree) in

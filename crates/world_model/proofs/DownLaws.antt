@@ -7,27 +7,28 @@ use Rattle.term_core.specs.declared.step.Step.{Step}
 use Rattle.term_core.specs.declared.step.Step.TheVariants.{Turn, Deliver}
 use Rattle.core_calls.specs.declared.call.CallKind.{CallKind}
 use Rattle.world_model.specs.Bonds.{watched_by_call, watched_in}
-use Rattle.world_model.specs.Calls.{Call, Spawn, Alone, Linked, Watched, Send, ToProcess, ToName, ToNobody, SendExit, Link, Monitor, Demonitor, OnTable, TableCall, TableArgument, First, GiveAway, call_of}
-use Rattle.world_model.specs.Cells.{Contents, Alive, Links, Owned, Table, Watchers, Front, Tail}
+use Rattle.world_model.specs.Calls.{Call, Spawn, Alone, Linked, Watched, Send, ToProcess, ToName, ToReference, ToNobody, SendExit, Link, Monitor, StartTimer, Demonitor, OnTable, TableCall, TableArgument, First, GiveAway, call_of}
+use Rattle.world_model.specs.Cells.{Contents, Alive, Links, Owned, Table, Watch, Watchers, Guard, Front, Tail}
 use Rattle.world_model.specs.Changes.{after}
-use Rattle.world_model.specs.Events.{Event, History, event, Deed, Served, EndedItself, Ended, RanAway, Delivered, Signal, Message, Exit, LinkExit, Down, Fate, Kills}
+use Rattle.world_model.specs.Events.{Event, History, event, Deed, Served, EndedItself, Ended, RanAway, Delivered, Signal, Message, Exit, LinkExit, Down, Guarded, Elapsed, Fate, Kills}
+use Rattle.world_model.specs.Guards.{aliased, ends_by_reply}
 use Rattle.world_model.specs.TableAccess.{Found}
 use Rattle.world_model.specs.Names.{Pid, Ref, same_pid, same_ref}
-use Rattle.world_model.specs.Posted.{on_way, if_lives, put_for_holder, put_by_link, put_by_watch, put_by_gift, put_by_call, put_for_heir, put_for_table, put_for_heirs, put_for_partners, put_for_watchers, put_by_end, put_in, outlives}
-use Rattle.world_model.specs.ProcessLines.{LinkWay, Stands, Pairs, PairsGone, Fails, link_way, next_ref, noproc}
+use Rattle.world_model.specs.Posted.{on_way, if_lives, put_for_holder, put_for_alias, put_by_link, put_by_watch, put_by_gift, put_by_call, put_for_heir, put_for_table, put_for_heirs, put_for_partners, put_for_watchers, put_by_end, put_in, outlives}
+use Rattle.world_model.specs.ProcessLines.{LinkWay, Stands, Pairs, PairsGone, Fails, link_way, next_child, next_ref, noproc, timer_message}
 use Rattle.world_model.specs.Requests.{Program}
 use Rattle.world_model.specs.Run.{IsRun}
 use Rattle.world_model.specs.RunLaws.{TargetsHaveWatches}
-use Rattle.world_model.specs.Signals.{first_of, goes_with, waiting_in}
+use Rattle.world_model.specs.Signals.{first_of, reply_ends, goes_with, waiting_in}
 use Rattle.world_model.specs.Steps.{changes_by, deed_delivered, next_deed, runaway}
 use Rattle.world_model.specs.Tables as tables
 use Rattle.world_model.specs.Tables.{Heir}
 use Rattle.world_model.specs.ProcessHistory.{is_it}
-use Rattle.world_model.specs.World.{alive, contents, found, holder, linked, traps, turns, watched}
+use Rattle.world_model.specs.World.{alive, contents, found, guarded, holder, linked, traps, turns, watched}
 use Rattle.world_model.proofs.BondLaws.{watched_told}
 use Rattle.world_model.proofs.Fresh.{all_free, counts, names_new, rises, watcher}
 use Rattle.world_model.proofs.Histories.{deed_is}
-use Rattle.world_model.proofs.Listed.{always_listed, any_ref, among_refs}
+use Rattle.world_model.proofs.Listed.{AreListed, always_listed, any_ref, among_refs}
 use Rattle.world_model.proofs.MailLaws.{tail_told}
 use Rattle.world_model.proofs.Matching.{Match, lost_has, it_is, is_itself}
 use Rattle.world_model.proofs.Meeting.{both, pids_same, refs_same, ref_itself}
@@ -84,10 +85,11 @@ new_by h p (Spawn Watched None) ref there y now = inl now
 new_by h p (Spawn Alone (Some origin)) ref there y now = inl now
 new_by h p (Spawn Linked (Some origin)) ref there y now = inl now
 new_by h p (Spawn Watched (Some origin)) ref there y now = begun_by (same_ref (next_ref (contents h) p) ref) _ there y now
-new_by h p (Monitor true None) ref there y now = inl now
-new_by h p (Monitor false None) ref there y now = inl now
-new_by h p (Monitor false (Some q)) ref there y now = inl now
-new_by h p (Monitor true (Some q)) ref there y now = begun_by (same_ref (next_ref (contents h) p) ref) q there y now
+new_by h p (Monitor true None alias) ref there y now = inl now
+new_by h p (Monitor false None alias) ref there y now = inl now
+new_by h p (Monitor false (Some q) alias) ref there y now = inl now
+new_by h p (Monitor true (Some q) None) ref there y now = inl now
+new_by h p (Monitor true (Some q) (Some alias)) ref there y now = begun_by (same_ref (next_ref (contents h) p) ref) q there y now
 new_by h p (Demonitor None flushes) ref there y now = inl now
 new_by h p (Demonitor (Some u) None) ref there y now = inl now
 new_by h p (Demonitor (Some u) (Some flushes)) ref there y now = inl (ended_by (same_pid u.pid p && same_ref u ref) there y now)
@@ -97,6 +99,7 @@ kept_or_new : (h : History) (step : Step) (deed : Deed) (ref : Ref) (there : Opt
 kept_or_new h (Turn p) (Served kind arguments answer) ref there y now = new_by h p (call_of kind arguments) ref there y now
 kept_or_new h (Turn p) deed ref there y now = inl now
 kept_or_new h (Deliver s r) (Delivered (Down other reason) fate) ref there y now = inl (ended_by (same_ref other ref) there y now)
+kept_or_new h (Deliver s r) (Delivered (Guarded other m) fate) ref there y now = inl (ended_by (ends_by_reply r (guarded h other) && same_ref other ref) there y now)
 kept_or_new h (Deliver s r) deed ref there y now = inl now
 
 -- a number that is used is no new one
@@ -128,6 +131,8 @@ one_still a h e s (Message m) is fit = tt
 one_still a h e s (Exit reason) is fit = tt
 one_still a h e s (LinkExit reason) is fit = tt
 one_still a h e s (Down ref reason) is fit = still_fits a h e s ref is fit
+one_still a h e s (Guarded ref m) is fit = tt
+one_still a h e s (Elapsed ref m) is fit = tt
 
 all_still : (a : Program) (h : History) (e : Event) (s : Pid) (xs : List Signal) → IsRun a h → AllFit h s xs → AllFit (e ∷ h) s xs
 all_still a h e s [] is fit = tt
@@ -153,6 +158,10 @@ own_fit g h p to x s r false fit = lives_fit g s (alive h to) (on_way p to x s r
 holder_fit : (g h : History) (p : Pid) (o : Option Pid) (x : Signal) (s r : Pid) → IsFit g p x → AllFit g s (put_for_holder h p o x s r)
 holder_fit g h p None x s r fit = tt
 holder_fit g h p (Some to) x s r fit = own_fit g h p to x s r (same_pid p to) fit
+
+alias_fit : (g h : History) (p : Pid) (o : Option Pid) (x : Signal) (s r : Pid) → IsFit g p x → AllFit g s (put_for_alias h p o x s r)
+alias_fit g h p None x s r fit = tt
+alias_fit g h p (Some to) x s r fit = lives_fit g s (alive h to) (on_way p to x s r) (on_way_fit g p to x s r fit)
 
 link_fit : (g : History) (way : LinkWay) (p q s r : Pid) → AllFit g s (put_by_link way p q s r)
 link_fit g Stands p q s r = tt
@@ -184,15 +193,21 @@ table_fit g h p argument call s r = tt
 call_fit : (g h : History) (p : Pid) (call : Call) (s r : Pid) → turns g p ≡ turns h p + 1 → ((ref : Ref) → watched g ref ≡ watched_by_call h p call ref (watched h ref)) → AllFit g s (put_by_call h p call s r)
 call_fit g h p (Send ToNobody m) s r now told = tt
 call_fit g h p (Send (ToProcess to) m) s r now told = own_fit g h p to (Message m) s r (same_pid p to) tt
+call_fit g h p (Send (ToReference u) m) s r now told = alias_fit g h p (aliased (guarded h u)) (Guarded u m) s r tt
 call_fit g h p (Send (ToName name) m) s r now told = holder_fit g h p (holder h name) (Message m) s r tt
 call_fit g h p (SendExit None reason) s r now told = tt
 call_fit g h p (SendExit (Some to) reason) s r now told = own_fit g h p to (Exit reason) s r (same_pid p to) tt
 call_fit g h p (Link None) s r now told = tt
 call_fit g h p (Link (Some q)) s r now told = link_fit g (link_way p q (linked h p) (alive h q) (traps h p)) p q s r
-call_fit g h p (Monitor true None) s r now told = tt
-call_fit g h p (Monitor false None) s r now told = tt
-call_fit g h p (Monitor false (Some q)) s r now told = tt
-call_fit g h p (Monitor true (Some q)) s r now told = watch_fit g (alive h q) p q (next_ref (contents h) p) s r (new_fit g h p q now (told (next_ref (contents h) p)))
+call_fit g h p (Monitor true None alias) s r now told = tt
+call_fit g h p (Monitor false None alias) s r now told = tt
+call_fit g h p (Monitor false (Some q) alias) s r now told = tt
+call_fit g h p (Monitor true (Some q) None) s r now told = tt
+call_fit g h p (StartTimer is_named None None m) s r now told = tt
+call_fit g h p (StartTimer is_named (Some time) None m) s r now told = tt
+call_fit g h p (StartTimer is_named None (Some to) m) s r now told = tt
+call_fit g h p (StartTimer is_named (Some time) (Some to) m) s r now told = lives_fit g s (alive h to) _ (on_way_fit g (next_child (contents h) p) to (Elapsed (next_ref (contents h) p) (timer_message is_named (next_ref (contents h) p) m)) s r tt)
+call_fit g h p (Monitor true (Some q) (Some alias)) s r now told = watch_fit g (alive h q) p q (next_ref (contents h) p) s r (new_fit g h p q now (told (next_ref (contents h) p)))
 call_fit g h p (OnTable argument call) s r now told = table_fit g h p argument call s r
 call_fit g h p call s r now told = tt
 
@@ -231,11 +246,18 @@ end_fit g v p reason s r fit =
     (fit_both g s (put_for_partners v p reason (v (Links p)) s r) (put_for_watchers v p reason (v (Watchers p)) s r) (partners_fit g v p reason (v (Links p)) s r) (watchers_fit g v p reason (v (Watchers p)) s r fit))
 
 -- what a delivery leaves of the watches of a process was there before
-was_watch : (h : History) (t u q : Pid) (x : Signal) (ref : Ref) → list_any (same_ref ref) (after (goes_with t u x) (contents h) (Watchers q)) ≡ true → list_any (same_ref ref) (contents h (Watchers q)) ≡ true
+reply_was : (b : Bool) (other : Ref) (o : Option Pid) (q : Pid) (v : Contents) (ref : Ref) → AreListed v → list_any (same_ref ref) (after (reply_ends b other o) v (Watchers q)) ≡ true → list_any (same_ref ref) (v (Watchers q)) ≡ true
+reply_was true other None q v ref sorted there = there
+reply_was true other (Some t) q v ref sorted there = (both (not (same_pid t q && same_ref other ref)) (list_any (same_ref ref) (v (Watchers q))) (sym (lost_has (same_pid t q) other ref (v (Watchers q)) (sorted.watches q)) ∙ there)).1
+reply_was false other o q v ref sorted there = there
+
+was_watch : (h : History) (t u q : Pid) (x : Signal) (ref : Ref) → list_any (same_ref ref) (after (goes_with (contents h) t u x) (contents h) (Watchers q)) ≡ true → list_any (same_ref ref) (contents h (Watchers q)) ≡ true
 was_watch h t u q (Message m) ref there = there
 was_watch h t u q (Exit reason) ref there = there
 was_watch h t u q (LinkExit reason) ref there = there
 was_watch h t u q (Down other reason) ref there = (both (not (same_pid t q && same_ref other ref)) (list_any (same_ref ref) (contents h (Watchers q))) (sym (lost_has (same_pid t q) other ref (contents h (Watchers q)) ((always_listed h).watches q)) ∙ there)).1
+was_watch h t u q (Guarded other m) ref there = reply_was (ends_by_reply u (contents h (Guard other))) other (contents h (Watch other)) q (contents h) ref (always_listed h) there
+was_watch h t u q (Elapsed other m) ref there = there
 
 -- ---- every event
 
@@ -246,7 +268,7 @@ put_fit g h (Turn p) (EndedItself kind arguments reason) s r told fit = end_fit 
 put_fit g h (Turn p) (Ended reason) s r told fit = end_fit g (contents h) p reason s r (fit p)
 put_fit g h (Turn p) RanAway s r told fit = end_fit g (contents h) p runaway s r (fit p)
 put_fit g h (Turn p) deed s r told fit = tt
-put_fit g h (Deliver t u) (Delivered x (Kills reason)) s r told fit = end_fit g (after (goes_with t u x) (contents h)) u reason s r (λ ref there. fit u ref (was_watch h t u u x ref there))
+put_fit g h (Deliver t u) (Delivered x (Kills reason)) s r told fit = end_fit g (after (goes_with (contents h) t u x) (contents h)) u reason s r (λ ref there. fit u ref (was_watch h t u u x ref there))
 put_fit g h (Deliver t u) deed s r told fit = tt
 
 -- ---- every run
@@ -291,6 +313,8 @@ from_fit h s (Message m) fit = tt
 from_fit h s (Exit reason) fit = tt
 from_fit h s (LinkExit reason) fit = tt
 from_fit h s (Down ref reason) fit = fit.of
+from_fit h s (Guarded ref m) fit = tt
+from_fit h s (Elapsed ref m) fit = tt
 
 delivered_from : (a : Program) (h : History) (step : Step) (deed : Deed) → next_deed a (contents h) step ≡ Some deed → ((s r : Pid) → AllFit h s (contents h (Tail s r))) → IsFrom (contents h) step deed
 delivered_from a h (Turn p) deed now fit = tt

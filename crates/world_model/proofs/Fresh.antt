@@ -73,7 +73,7 @@ makes_next v p call t is = absurd cc
 
 watches_next : (v : Contents) (p : Pid) (call : Call) (t : Ref) → watches_by v p call t ≡ true → same_ref (next_ref v p) t ≡ true
 watches_next v p (Spawn way origin) t is = is
-watches_next v p (Monitor is_process whom) t is = is
+watches_next v p (Monitor is_process whom alias) t is = is
 watches_next v p call t is = absurd cc
 
 begun_next : (h : History) (p : Pid) (call : Call) (q : Pid) → is_it (begun_by_call h p call) q ≡ true → next_child (contents h) p ≡ q

@@ -10,7 +10,7 @@ use Rattle.world_model.specs.Calls.{Call, TableCall, DeleteTable, GiveAway, SetO
 use Rattle.world_model.specs.Cells.{Contents, Cell, Alive, Links, NameOf, Table, TableName, Owned, Watchers}
 use Rattle.world_model.specs.Changes.{TableSet, OwnedAdded, TableRemoved, RowsCleared, OwnedRemoved, HeirSet, AliveCleared, OwnedCleared, TableNameCleared, MachineHalted, TurnTaken, SignalDelivered, after, changed}
 use Rattle.world_model.specs.Ends.{ends, heir_pid, left_by, living_heir, name_left, partners_told, passed, table_passes, tables_pass, watchers_told}
-use Rattle.world_model.specs.Events.{History, Deed, Served, Refused, EndedItself, Ended, Received, TimedOut, RanAway, Delivered, Signal, Message, Exit, LinkExit, Down, Fate, Arrives, IsIgnored, IsDropped, Kills}
+use Rattle.world_model.specs.Events.{History, Deed, Served, Refused, EndedItself, Ended, Received, TimedOut, RanAway, Delivered, Signal, LinkExit, Down, Fate, Arrives, IsIgnored, IsDropped, Kills}
 use Rattle.world_model.specs.TableAccess.{Found, find}
 use Rattle.world_model.specs.TableRules.{found_line}
 use Rattle.world_model.specs.Lines.{line}
@@ -38,9 +38,8 @@ use Rattle.world_model.proofs.Matching.{Match, match_same, match_moves, gained_h
 use Rattle.world_model.proofs.Meeting.{pids_same, refs_same}
 use Rattle.world_model.proofs.Mutual.{both_turned}
 use Rattle.world_model.proofs.Named.{found_there}
-use Rattle.world_model.proofs.Outcomes.{touches}
 use Rattle.world_model.proofs.OwnerLaws.{end_passes, heir_at, turned_ref}
-use Rattle.world_model.proofs.SortLaws.{AllAmong, among_both, call_leaves, put_among, table_among, untouched_by}
+use Rattle.world_model.proofs.SortLaws.{goes_off, AllAmong, among_both, call_leaves, put_among, table_among, untouched_by}
 use Rattle.world_model.proofs.Sorts.{is_among, table_sorts}
 
 abbrev pub owner_of : Option tables.Table → Option Pid
@@ -254,18 +253,8 @@ end_had v w p reason lists all before_ = λ q t.
 
 -- ---- every event, and every run
 
-goes_off : (s r : Pid) (x : Signal) (c : Cell) → is_among (12 ∷ 13 ∷ []) c ≡ true → touches (goes_with s r x) c ≡ false
-goes_off s r (Message m) c is = refl
-goes_off s r (Exit reason) c is = refl
-goes_off s r (LinkExit reason) (Table t) is = refl
-goes_off s r (LinkExit reason) (Owned q) is = refl
-goes_off s r (LinkExit reason) c is = absurd (true≢false (sym is))
-goes_off s r (Down ref reason) (Table t) is = refl
-goes_off s r (Down ref reason) (Owned q) is = refl
-goes_off s r (Down ref reason) c is = absurd (true≢false (sym is))
-
-pub goes_had : (s r : Pid) (x : Signal) (v : Contents) → Had v → Had (after (goes_with s r x) v)
-goes_had s r x v before_ = had_same v (after (goes_with s r x) v) (λ q. stays (goes_with s r x) v (Owned q) (goes_off s r x (Owned q) refl)) (λ t. ap owner_of (stays (goes_with s r x) v (Table t) (goes_off s r x (Table t) refl))) before_
+pub goes_had : (u : Contents) (s r : Pid) (x : Signal) (v : Contents) → Had v → Had (after (goes_with u s r x) v)
+goes_had u s r x v before_ = had_same v (after (goes_with u s r x) v) (λ q. stays (goes_with u s r x) v (Owned q) (goes_off u s r x (Owned q) refl)) (λ t. ap owner_of (stays (goes_with u s r x) v (Table t) (goes_off u s r x (Table t) refl))) before_
 
 fate_had : (v w : Contents) (r : Pid) (f : Fate) → ((q : Pid) → w (Owned q) ≡ v (Owned q)) → ((t : Ref) → w (Table t) ≡ v (Table t)) → Had v → Had (after (changes_of_fate v r f) w)
 fate_had v w r (Arrives m) lists all before_ = had_same v (after (changes_of_fate v r (Arrives m)) w) lists (λ t. ap owner_of (all t)) before_
@@ -283,11 +272,11 @@ event_had v (Turn p) (Ended reason) free sorted before_ = end_had v (changed (Tu
 event_had v (Turn p) RanAway free sorted before_ = end_had v (changed (TurnTaken p []) v) p runaway (λ q. refl) (λ t. refl) before_
 event_had v (Turn p) (Delivered x f) free sorted before_ = before_
 event_had v (Deliver s r) (Delivered x f) free sorted before_ =
-    let ks = goes_with s r x in
+    let ks = goes_with v s r x in
     let w = changed (SignalDelivered s r) v in
     had_same (after (changes_of_fate (after ks v) r f) (after ks w)) (after (changes_by v (Deliver s r) (Delivered x f)) v)
     (λ q. after_both ks (changes_of_fate (after ks v) r f) w (Owned q)) (λ t. ap owner_of (after_both ks (changes_of_fate (after ks v) r f) w (Table t)))
-    (fate_had (after ks v) (after ks w) r f (λ q. follows ks w v (Owned q) refl) (λ t. follows ks w v (Table t) refl) (goes_had s r x v before_))
+    (fate_had (after ks v) (after ks w) r f (λ q. follows ks w v (Owned q) refl) (λ t. follows ks w v (Table t) refl) (goes_had v s r x v before_))
 event_had v (Deliver s r) deed free sorted before_ = before_
 
 pub run_had : (a : Program) (h : History) → IsRun a h → Had (contents h)

@@ -10,7 +10,7 @@ use Rattle.world_model.specs.Calls.{Spawn, SpawnWay, Alone, Linked, Watched, Cal
 use Rattle.world_model.specs.Cells.{Alive, Machine, Contents, Trap, Course}
 use Rattle.world_model.specs.Changes.{after, changed, SignalDelivered, TurnTaken}
 use Rattle.world_model.specs.Ends.{ends}
-use Rattle.world_model.specs.Events.{Signal, Message, Exit, LinkExit, Down, Fate, Delivered, Arrives, IsIgnored, IsDropped, Kills, History, Deed, Served, Refused, Ended, EndedItself, Received, TimedOut, RanAway}
+use Rattle.world_model.specs.Events.{Signal, Fate, Delivered, Arrives, IsIgnored, IsDropped, Kills, History, Deed, Served, Refused, Ended, EndedItself, Received, TimedOut, RanAway}
 use Rattle.world_model.specs.Lines.{line}
 use Rattle.world_model.specs.Names.{Pid, Ref, same_pid}
 use Rattle.world_model.specs.ProcessLines.{bound, next_child, next_ref}
@@ -23,7 +23,7 @@ use Rattle.world_model.specs.World.{contents}
 use Rattle.world_model.proofs.Commuting.{stays}
 use Rattle.world_model.proofs.EndSorts.{alive_after_end, after_both, end_leaves}
 use Rattle.world_model.proofs.Outcomes.{touches}
-use Rattle.world_model.proofs.SortLaws.{call_leaves, no_life, no_flag, no_course}
+use Rattle.world_model.proofs.SortLaws.{goes_off, call_leaves, no_life, no_flag, no_course}
 
 bound_off : (way : SpawnWay) (p child : Pid) (ref : Ref) (q : Pid) → touches (bound way p child ref) (Alive q) ≡ false
 bound_off Alone p child ref q = refl
@@ -38,13 +38,6 @@ bound_off_course Watched p child ref q = refl
 abbrev IsTold : Contents → Contents → Option Pid → Option Pid → Pid → Type 0
 IsTold v now ended begins q = now (Alive q) ≡ (if is_it ended q then false else (if is_it begins q then true else v (Alive q)))
 
--- a signal that goes through takes no life but by killing
-goes_off : (s r q : Pid) (x : Signal) → touches (goes_with s r x) (Alive q) ≡ false
-goes_off s r q (Message m) = refl
-goes_off s r q (Exit reason) = refl
-goes_off s r q (LinkExit reason) = refl
-goes_off s r q (Down ref reason) = refl
-
 fate_told : (v w : Contents) (s r q : Pid) (x : Signal) (f : Fate) → after (changes_of_fate v r f) w (Alive q) ≡ (if is_it (ended_in (Deliver s r) (Delivered x f)) q then false else w (Alive q))
 fate_told v w s r q x (Arrives m) = refl
 fate_told v w s r q x IsIgnored = refl
@@ -53,9 +46,9 @@ fate_told v w s r q x (Kills reason) = alive_after_end v w r q reason
 
 delivery_told : (v : Contents) (s r q : Pid) (x : Signal) (f : Fate) → IsTold v (after (changes_by v (Deliver s r) (Delivered x f)) v) (ended_in (Deliver s r) (Delivered x f)) None q
 delivery_told v s r q x f =
-    let ks = goes_with s r x in
+    let ks = goes_with v s r x in
     let w = changed (SignalDelivered s r) v in
-    after_both ks (changes_of_fate (after ks v) r f) w (Alive q) ∙ fate_told (after ks v) (after ks w) s r q x f ∙ ap (λ b. if is_it (ended_in (Deliver s r) (Delivered x f)) q then false else b) (stays ks w (Alive q) (goes_off s r q x))
+    after_both ks (changes_of_fate (after ks v) r f) w (Alive q) ∙ fate_told (after ks v) (after ks w) s r q x f ∙ ap (λ b. if is_it (ended_in (Deliver s r) (Delivered x f)) q then false else b) (stays ks w (Alive q) (goes_off v s r x (Alive q) refl))
 
 call_told : (h : History) (w : Contents) (p q : Pid) (call : Call) → w (Alive q) ≡ contents h (Alive q) → IsTold (contents h) (after (line (contents h) p call).changes w) None (begun_by_call h p call) q
 call_told h w p q (Spawn way (Some origin)) same = stays (bound way p (next_child (contents h) p) (next_ref (contents h) p)) _ (Alive q) (bound_off way p (next_child (contents h) p) (next_ref (contents h) p) q) ∙ ap (λ x. if same_pid (next_child (contents h) p) q then true else x) same
@@ -91,12 +84,6 @@ call_flag v w p q (Flag None) same = same ∙ same_either (same_pid p q) (v (Tra
 call_flag v w p q (OnTable argument call) same = call_leaves v w p (OnTable argument call) (Trap q) (no_flag call q) ∙ same ∙ same_either (same_pid p q) (v (Trap q))
 call_flag v w p q call same = call_leaves v w p call (Trap q) refl ∙ same ∙ same_either (same_pid p q) (v (Trap q))
 
-goes_off_trap : (s r q : Pid) (x : Signal) → touches (goes_with s r x) (Trap q) ≡ false
-goes_off_trap s r q (Message m) = refl
-goes_off_trap s r q (Exit reason) = refl
-goes_off_trap s r q (LinkExit reason) = refl
-goes_off_trap s r q (Down ref reason) = refl
-
 fate_flag : (v w : Contents) (r q : Pid) (f : Fate) → after (changes_of_fate v r f) w (Trap q) ≡ w (Trap q)
 fate_flag v w r q (Arrives m) = refl
 fate_flag v w r q IsIgnored = refl
@@ -113,9 +100,9 @@ flagged v (Turn p) (Ended reason) q = end_leaves v (changed (TurnTaken p []) v) 
 flagged v (Turn p) RanAway q = end_leaves v (changed (TurnTaken p []) v) p runaway (Trap q) refl ∙ same_either (same_pid p q) (v (Trap q))
 flagged v (Turn p) (Delivered x f) q = same_either (same_pid p q) (v (Trap q))
 flagged v (Deliver s r) (Delivered x f) q =
-    let ks = goes_with s r x in
+    let ks = goes_with v s r x in
     let w = changed (SignalDelivered s r) v in
-    after_both ks (changes_of_fate (after ks v) r f) w (Trap q) ∙ fate_flag (after ks v) (after ks w) r q f ∙ stays ks w (Trap q) (goes_off_trap s r q x)
+    after_both ks (changes_of_fate (after ks v) r f) w (Trap q) ∙ fate_flag (after ks v) (after ks w) r q f ∙ stays ks w (Trap q) (goes_off v s r x (Trap q) refl)
 flagged v (Deliver s r) deed q = refl
 
 pub traps_told : TrapsAreTold
@@ -149,12 +136,6 @@ module _ {A : Type 0} (part : Course → A) (fresh : A) (turned_ : List Answered
   end_part : (v w : Contents) (p q : Pid) (reason : Meaning) → part (after (ends v p reason) w (Machine q)) ≡ part (w (Machine q))
   end_part v w p q reason = ap part (end_leaves v w p reason (Machine q) refl) ∙ halted_if (same_pid p q) reason (w (Machine q))
 
-  goes_part : (s r q : Pid) (x : Signal) → touches (goes_with s r x) (Machine q) ≡ false
-  goes_part s r q (Message m) = refl
-  goes_part s r q (Exit reason) = refl
-  goes_part s r q (LinkExit reason) = refl
-  goes_part s r q (Down ref reason) = refl
-
   fate_part : (v w : Contents) (r q : Pid) (f : Fate) → part (after (changes_of_fate v r f) w (Machine q)) ≡ part (w (Machine q))
   fate_part v w r q (Arrives m) = refl
   fate_part v w r q IsIgnored = refl
@@ -186,9 +167,9 @@ module _ {A : Type 0} (part : Course → A) (fresh : A) (turned_ : List Answered
   parts_told h (Turn p) RanAway q = end_part (contents h) _ p q runaway ∙ turn_part h p q []
   parts_told h (Turn p) (Delivered x f) q = and_false (same_pid p q) _ _
   parts_told h (Deliver s r) (Delivered x f) q =
-      let ks = goes_with s r x in
+      let ks = goes_with (contents h) s r x in
       let w = changed (SignalDelivered s r) (contents h) in
-      ap part (after_both ks (changes_of_fate (after ks (contents h)) r f) w (Machine q)) ∙ fate_part (after ks (contents h)) (after ks w) r q f ∙ ap part (stays ks w (Machine q) (goes_part s r q x))
+      ap part (after_both ks (changes_of_fate (after ks (contents h)) r f) w (Machine q)) ∙ fate_part (after ks (contents h)) (after ks w) r q f ∙ ap part (stays ks w (Machine q) (goes_off (contents h) s r x (Machine q) refl))
   parts_told h (Deliver s r) deed q = refl
 
 pub turns_told : TurnsAreTold

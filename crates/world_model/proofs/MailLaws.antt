@@ -7,16 +7,17 @@ use Rattle.term_core.specs.declared.step.Step.{Step}
 use Rattle.term_core.specs.declared.step.Step.TheVariants.{Deliver, Turn}
 use Rattle.core_calls.specs.declared.call.CallKind.{CallKind}
 use Rattle.core_semantics.specs.Asked as answered
-use Rattle.world_model.specs.Calls.{Call, Send, ToNobody, ToProcess, ToName, SendExit, Demonitor, OnTable, call_of}
-use Rattle.world_model.specs.Cells.{Machine, Taken, Mailed, Contents, Alive, Watch, Watchers, Holder, Tail, meet, Front}
-use Rattle.world_model.specs.Changes.{after, WatchCleared, WatcherRemoved, CellTouched, MessageAdded, MessageTaken, without_first, is_of_watch, changed, TurnTaken, SignalDelivered, Change, SignalPut}
-use Rattle.world_model.specs.Events.{Signal, Message, Exit, History, LinkExit, Down, Fate, Delivered, Arrives, IsIgnored, IsDropped, Kills, Deed, Served, Refused, EndedItself, Ended, Received, TimedOut, RanAway, Event, Refusal}
+use Rattle.world_model.specs.Calls.{Call, Send, ToNobody, ToProcess, ToName, ToReference, SendExit, Demonitor, OnTable, call_of}
+use Rattle.world_model.specs.Cells.{Machine, Taken, Mailed, Contents, Alive, Watch, Watchers, Guard, Holder, Tail, meet, Front}
+use Rattle.world_model.specs.Changes.{after, WatchCleared, WatcherRemoved, GuardUnwatched, CellTouched, MessageAdded, MessageTaken, without_first, is_of_watch, changed, TurnTaken, SignalDelivered, Change, SignalPut}
+use Rattle.world_model.specs.Events.{Signal, Message, Exit, History, Guarded, Fate, Delivered, Arrives, IsIgnored, IsDropped, Kills, Deed, Served, Refused, EndedItself, Ended, Received, TimedOut, RanAway, Event, Refusal}
+use Rattle.world_model.specs.Guards.{aliased}
 use Rattle.world_model.specs.Lines.{line}
 use Rattle.world_model.specs.Mail.{mailed, mailed_if, mailed_to_holder, mailed_by_call, mailed_in, MailboxIsTold, signals_to, delivers, WaitingIsTold}
 use Rattle.world_model.specs.Ends.{ends}
 use Rattle.world_model.specs.Mailboxes.{left_of, mailbox_in, selected_of, picked}
 use Rattle.world_model.specs.Names.{Pid, same_pid, same_term, Ref}
-use Rattle.world_model.specs.ProcessLines.{sent, exited, sent_to_holder, watch_ends}
+use Rattle.world_model.specs.ProcessLines.{sent, exited, sent_to_holder, watch_ends, send_line}
 use Rattle.world_model.specs.Requests.{Program, Request, Calls, Receives, Ends, RunsAway}
 use Rattle.world_model.specs.Run.{next_event, IsRun}
 use Rattle.world_model.specs.Signals.{put_if, exit_message, goes_with, first_of, waiting_in}
@@ -27,8 +28,7 @@ use Rattle.world_model.proofs.EndSorts.{after_both, end_leaves}
 use Rattle.world_model.proofs.Histories.{deed_is}
 use Rattle.world_model.proofs.MailboxLaws.{left_last, without_behind, selected_there, without_selected, without_none}
 use Rattle.world_model.proofs.Meeting.{both, pids_same}
-use Rattle.world_model.proofs.Outcomes.{touches}
-use Rattle.world_model.proofs.SortLaws.{call_leaves, no_mail, none_taken, no_front}
+use Rattle.world_model.proofs.SortLaws.{goes_off, call_leaves, no_mail, none_taken, no_front}
 use Rattle.world_model.proofs.Sorts.{is_among, sorts_of}
 
 -- ---- mailboxes
@@ -67,7 +67,12 @@ holder_mail : (v w : Contents) (p : Pid) (o : Option Pid) (q : Pid) (m : Meaning
 holder_mail v w p None q m sound = refl
 holder_mail v w p (Some to) q m sound = sent_mail (same_pid p to) v w p to q m sound
 
-ended_by_taken : (b : Bool) (p : Pid) (u : Ref) (x : Pid) (w : Contents) (q : Pid) → after (if b then WatchCleared u ∷ WatcherRemoved x u ∷ [] else CellTouched (Watch u) ∷ CellTouched (Watchers x) ∷ []) w (Taken q) ≡ w (Taken q)
+-- a message by an alias is no mail yet
+alias_mail : (v w : Contents) (p : Pid) (ref : Ref) (o : Option Pid) (q : Pid) (m : Meaning) → mailbox_in (after (send_line v p ref o m).changes w) q ≡ mailbox_in w q
+alias_mail v w p ref None q m = refl
+alias_mail v w p ref (Some to) q m = put_mail (v (Alive to)) p to (Guarded ref m) w q
+
+ended_by_taken : (b : Bool) (p : Pid) (u : Ref) (x : Pid) (w : Contents) (q : Pid) → after (if b then WatchCleared u ∷ WatcherRemoved x u ∷ GuardUnwatched u ∷ [] else CellTouched (Watch u) ∷ CellTouched (Watchers x) ∷ []) w (Taken q) ≡ w (Taken q)
 ended_by_taken true p u x w q = refl
 ended_by_taken false p u x w q = refl
 
@@ -75,7 +80,7 @@ ended_taken : (p : Pid) (u : Ref) (o : Option Pid) (w : Contents) (q : Pid) → 
 ended_taken p u None w q = refl
 ended_taken p u (Some x) w q = ended_by_taken (same_pid u.pid p) p u x w q
 
-ended_by_mail : (b : Bool) (p : Pid) (u : Ref) (x : Pid) (w : Contents) (q : Pid) → after (if b then WatchCleared u ∷ WatcherRemoved x u ∷ [] else CellTouched (Watch u) ∷ CellTouched (Watchers x) ∷ []) w (Mailed q) ≡ w (Mailed q)
+ended_by_mail : (b : Bool) (p : Pid) (u : Ref) (x : Pid) (w : Contents) (q : Pid) → after (if b then WatchCleared u ∷ WatcherRemoved x u ∷ GuardUnwatched u ∷ [] else CellTouched (Watch u) ∷ CellTouched (Watchers x) ∷ []) w (Mailed q) ≡ w (Mailed q)
 ended_by_mail true p u x w q = refl
 ended_by_mail false p u x w q = refl
 
@@ -120,6 +125,7 @@ flushed_mail v w p u q same =
 call_mail : (h : History) (w : Contents) (p : Pid) (call : Call) (q : Pid) → mailbox_in w p ≡ mailbox_in (contents h) p → IsSound w q → mailbox_in (after (line (contents h) p call).changes w) q ≡ mailed_by_call h p call q (mailbox_in w q)
 call_mail h w p (Send ToNobody m) q same sound = refl
 call_mail h w p (Send (ToProcess to) m) q same sound = sent_mail (same_pid p to) (contents h) w p to q m sound
+call_mail h w p (Send (ToReference ref) m) q same sound = alias_mail (contents h) w p ref (aliased (contents h (Guard ref))) q m
 call_mail h w p (Send (ToName name) m) q same sound = holder_mail (contents h) w p (contents h (Holder name)) q m sound
 call_mail h w p (SendExit None reason) q same sound = refl
 call_mail h w p (SendExit (Some to) reason) q same sound = exited_mail (same_pid p to) (contents h) w p to q reason sound
@@ -131,18 +137,6 @@ call_mail h w p (Demonitor (Some u) (Some false)) q same sound =
     left_alone (after (ks ++ []) w) (after ks w) q (after_both ks [] w (Taken q)) (after_both ks [] w (Mailed q)) ∙ ended_alone p u (contents h (Watch u)) w q
 call_mail h w p (OnTable argument call) q same sound = call_alone (contents h) w p (OnTable argument call) q (none_taken call q) (no_mail call q)
 call_mail h w p call q same sound = call_alone (contents h) w p call q refl refl
-
-goes_taken : (s r q : Pid) (x : Signal) → touches (goes_with s r x) (Taken q) ≡ false
-goes_taken s r q (Message m) = refl
-goes_taken s r q (Exit reason) = refl
-goes_taken s r q (LinkExit reason) = refl
-goes_taken s r q (Down u reason) = refl
-
-goes_mail : (s r q : Pid) (x : Signal) → touches (goes_with s r x) (Mailed q) ≡ false
-goes_mail s r q (Message m) = refl
-goes_mail s r q (Exit reason) = refl
-goes_mail s r q (LinkExit reason) = refl
-goes_mail s r q (Down u reason) = refl
 
 end_alone : (v w : Contents) (p : Pid) (reason : Meaning) (q : Pid) → mailbox_in (after (ends v p reason) w) q ≡ mailbox_in w q
 end_alone v w p reason q = left_alone (after (ends v p reason) w) w q (end_leaves v w p reason (Taken q) refl) (end_leaves v w p reason (Mailed q) refl)
@@ -163,11 +157,11 @@ told_mail h (Turn p) (Ended reason) q sound = end_alone (contents h) (changed (T
 told_mail h (Turn p) RanAway q sound = end_alone (contents h) (changed (TurnTaken p []) (contents h)) p runaway q
 told_mail h (Turn p) (Delivered x f) q sound = refl
 told_mail h (Deliver s r) (Delivered x f) q sound =
-    let ks = goes_with s r x in
+    let ks = goes_with (contents h) s r x in
     let ls = changes_of_fate (after ks (contents h)) r f in
     let w = changed (SignalDelivered s r) (contents h) in
-    let taken = stays ks w (Taken q) (goes_taken s r q x) in
-    let mailed = stays ks w (Mailed q) (goes_mail s r q x) in
+    let taken = stays ks w (Taken q) (goes_off (contents h) s r x (Taken q) refl) in
+    let mailed = stays ks w (Mailed q) (goes_off (contents h) s r x (Mailed q) refl) in
     left_alone (after (ks ++ ls) w) (after ls (after ks w)) q (after_both ks ls w (Taken q)) (after_both ks ls w (Mailed q))
     ∙ fate_mail h (after ks (contents h)) (after ks w) s r q x f (λ ys. (λ i. left_of (taken i) (mailed i ++ ys)) ∙ sound ys ∙ sym (λ i. left_of (taken i) (mailed i) ++ ys))
     ∙ ap (mailed_in h (Deliver s r) (Delivered x f) q) (left_alone (after ks w) w q taken mailed)
@@ -250,10 +244,10 @@ event_sound v (Turn p) (Ended reason) q there sound = end_sound v (changed (Turn
 event_sound v (Turn p) RanAway q there sound = end_sound v (changed (TurnTaken p []) v) p runaway q sound
 event_sound v (Turn p) (Delivered x f) q there sound = sound
 event_sound v (Deliver s r) (Delivered x f) q there sound =
-    let ks = goes_with s r x in
+    let ks = goes_with v s r x in
     let ls = changes_of_fate (after ks v) r f in
     let w = changed (SignalDelivered s r) v in
-    kept (ks ++ ls) w q (after_both ks ls w (Taken q) ∙ fate_taken (after ks v) (after ks w) r q f ∙ stays ks w (Taken q) (goes_taken s r q x)) sound
+    kept (ks ++ ls) w q (after_both ks ls w (Taken q) ∙ fate_taken (after ks v) (after ks w) r q f ∙ stays ks w (Taken q) (goes_off v s r x (Taken q) refl)) sound
 event_sound v (Deliver s r) deed q there sound = sound
 
 received_in : Deed → Option Meaning
@@ -337,12 +331,6 @@ call_front : (v w : Contents) (p : Pid) (call : Call) (s r : Pid) → after (lin
 call_front v w p (OnTable argument call) s r = call_leaves v w p (OnTable argument call) (Front s r) (no_front call s r)
 call_front v w p call s r = call_leaves v w p call (Front s r) refl
 
-goes_front : (t u s r : Pid) (x : Signal) → touches (goes_with t u x) (Front s r) ≡ false
-goes_front t u s r (Message m) = refl
-goes_front t u s r (Exit reason) = refl
-goes_front t u s r (LinkExit reason) = refl
-goes_front t u s r (Down ref reason) = refl
-
 fate_front : (v w : Contents) (u s r : Pid) (f : Fate) → after (changes_of_fate v u f) w (Front s r) ≡ w (Front s r)
 fate_front v w u s r (Arrives m) = refl
 fate_front v w u s r IsIgnored = refl
@@ -366,9 +354,9 @@ front_told v (Turn p) (Ended reason) s r = end_leaves v (changed (TurnTaken p []
 front_told v (Turn p) RanAway s r = end_leaves v (changed (TurnTaken p []) v) p runaway (Front s r) refl ∙ nothing_added (v (Front s r))
 front_told v (Turn p) (Delivered x f) s r = nothing_added (v (Front s r))
 front_told v (Deliver t u) (Delivered x f) s r =
-    let ks = goes_with t u x in
+    let ks = goes_with v t u x in
     let w = changed (SignalDelivered t u) v in
-    after_both ks (changes_of_fate (after ks v) u f) w (Front s r) ∙ fate_front (after ks v) (after ks w) u s r f ∙ stays ks w (Front s r) (goes_front t u s r x) ∙ fetched_by (same_pid t s && same_pid u r) (v (Front s r))
+    after_both ks (changes_of_fate (after ks v) u f) w (Front s r) ∙ fate_front (after ks v) (after ks w) u s r f ∙ stays ks w (Front s r) (goes_off v t u x (Front s r) refl) ∙ fetched_by (same_pid t s && same_pid u r) (v (Front s r))
 front_told v (Deliver t u) deed s r = nothing_added (v (Front s r))
 
 -- at most as much is delivered as was put

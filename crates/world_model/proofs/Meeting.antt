@@ -4,7 +4,7 @@ use Rattle.std.specs.Prelude.{bytes_eq}
 use Rattle.std.proofs.lemmas.Slice.Eq.{bytes_eq-Decides}
 use Rattle.std.proofs.lemmas.Bool.{eqb-true, eq-eqb}
 use Rattle.world_model.specs.Names.{Ref, same_pid, same_ref}
-use Rattle.world_model.specs.Cells.{Cell, Machine, Alive, Trap, Watchers, Watch, Holder, NameOf, Taken, Mailed, Front, Tail, Links, TableName, Table, Row, Rows, Owned, meet}
+use Rattle.world_model.specs.Cells.{Cell, Machine, Alive, Trap, Watchers, Watch, Guard, Holder, NameOf, Taken, Mailed, Front, Tail, Links, TableName, Table, Row, Rows, Owned, meet}
 
 pub both : (a b : Bool) → (a && b) ≡ true → (a ≡ true) × (b ≡ true)
 both true b e = (refl, e)
@@ -62,6 +62,7 @@ whole_same (Owned p) (Owned q) e = ap Owned (pids_same p q e)
 whole_same (Trap p) (Trap q) e = ap Trap (pids_same p q e)
 whole_same (Watchers p) (Watchers q) e = ap Watchers (pids_same p q e)
 whole_same (Watch p) (Watch q) e = ap Watch (refs_same p q e)
+whole_same (Guard p) (Guard q) e = ap Guard (refs_same p q e)
 whole_same (Holder n) (Holder m) e = ap Holder (pids_same n m e)
 whole_same (NameOf p) (NameOf q) e = ap NameOf (pids_same p q e)
 whole_same a b e = absurd (true≢false (sym e))
@@ -86,6 +87,7 @@ meets_whole (Owned p) = pid_itself p
 meets_whole (Trap p) = pid_itself p
 meets_whole (Watchers p) = pid_itself p
 meets_whole (Watch r) = ref_itself r
+meets_whole (Guard r) = ref_itself r
 meets_whole (Holder n) = pid_itself n
 meets_whole (NameOf p) = pid_itself p
 

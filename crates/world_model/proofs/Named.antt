@@ -8,7 +8,7 @@ use Rattle.world_model.specs.Calls.{Call, TableArgument, ByName, ByReference, By
 use Rattle.world_model.specs.Cells.{Table, Cell, Contents, TableName, Owned}
 use Rattle.world_model.specs.Changes.{after, TableNameCleared, HeirSet, changed, CellTouched, TableRemoved, RowsCleared, OwnedRemoved, TableSet, OwnedAdded, AliveCleared, MachineHalted, SignalDelivered}
 use Rattle.world_model.specs.Ends.{ends, passed, table_passes, living_heir, tables_pass}
-use Rattle.world_model.specs.Events.{Signal, Message, Exit, LinkExit, Down, Fate, Arrives, IsIgnored, IsDropped, Kills, Deed, Served, Refused, Ended, EndedItself, Received, TimedOut, RanAway, Delivered, History}
+use Rattle.world_model.specs.Events.{Fate, Arrives, IsIgnored, IsDropped, Kills, Deed, Served, Refused, Ended, EndedItself, Received, TimedOut, RanAway, Delivered, History}
 use Rattle.world_model.specs.TableAccess.{find, Found, as_found, meant, unless_named}
 use Rattle.world_model.specs.FindingHistory.{TablesAreFound, FoundAreThere}
 use Rattle.world_model.specs.TableRules.{found_line}
@@ -30,10 +30,9 @@ use Rattle.world_model.proofs.Commuting.{either_way, stays, follows}
 use Rattle.world_model.proofs.EndSorts.{after_both}
 use Rattle.world_model.proofs.Fresh.{names_new}
 use Rattle.world_model.proofs.Meeting.{refs_same, pid_itself, both, pids_same, ref_itself}
-use Rattle.world_model.proofs.Outcomes.{touches}
 use Rattle.world_model.proofs.OwnerLaws.{rest_off}
 use Rattle.world_model.proofs.Served.{Unrefused, unrefused_in}
-use Rattle.world_model.proofs.SortLaws.{untouched_by, table_among, call_leaves}
+use Rattle.world_model.proofs.SortLaws.{goes_off, untouched_by, table_among, call_leaves}
 use Rattle.world_model.proofs.Sorts.{is_among, table_sorts}
 
 -- ---- names, and tables, as they are
@@ -386,18 +385,6 @@ end_named v w p reason names all before_ =
 
 -- ---- every event, and every run
 
-goes_names : (s r : Pid) (n : Name) (x : Signal) → touches (goes_with s r x) (TableName n) ≡ false
-goes_names s r n (Message m) = refl
-goes_names s r n (Exit reason) = refl
-goes_names s r n (LinkExit reason) = refl
-goes_names s r n (Down ref reason) = refl
-
-goes_tables : (s r : Pid) (t : Ref) (x : Signal) → touches (goes_with s r x) (Table t) ≡ false
-goes_tables s r t (Message m) = refl
-goes_tables s r t (Exit reason) = refl
-goes_tables s r t (LinkExit reason) = refl
-goes_tables s r t (Down ref reason) = refl
-
 fate_named : (v w : Contents) (r : Pid) (f : Fate) → ((n : Name) → w (TableName n) ≡ v (TableName n)) → ((t : Ref) → w (Table t) ≡ v (Table t)) → Holds_ v → Holds_ (after (changes_of_fate v r f) w)
 fate_named v w r (Arrives m) names all before_ = same_named v (after (changes_of_fate v r (Arrives m)) w) names all before_
 fate_named v w r IsIgnored names all before_ = same_named v w names all before_
@@ -414,9 +401,9 @@ event_named v (Turn p) (Ended reason) served free before_ = end_named v _ p reas
 event_named v (Turn p) RanAway served free before_ = end_named v _ p runaway (λ n. refl) (λ t. refl) before_
 event_named v (Turn p) (Delivered x f) served free before_ = before_
 event_named v (Deliver s r) (Delivered x f) served free before_ =
-    let ks = goes_with s r x in
+    let ks = goes_with v s r x in
     let w = changed (SignalDelivered s r) v in
-    let mid = same_named v (after ks v) (λ n. stays ks v (TableName n) (goes_names s r n x)) (λ t. stays ks v (Table t) (goes_tables s r t x)) before_ in
+    let mid = same_named v (after ks v) (λ n. stays ks v (TableName n) (goes_off v s r x (TableName n) refl)) (λ t. stays ks v (Table t) (goes_off v s r x (Table t) refl)) before_ in
     subst Holds_ (λ i c. sym (after_both ks (changes_of_fate (after ks v) r f) w c) i)
     (fate_named (after ks v) (after ks w) r f (λ n. follows ks w v (TableName n) refl) (λ t. follows ks w v (Table t) refl) mid)
 event_named v (Deliver s r) deed served free before_ = before_

@@ -12,7 +12,7 @@ use Rattle.world_model.specs.Calls.{Call, TableCall, DeleteTable, GiveAway, SetO
 use Rattle.world_model.specs.Cells.{Table, TableName, Cell, Owned, Contents, Alive}
 use Rattle.world_model.specs.Changes.{after, TableNameCleared, HeirSet, changed, CellTouched, TableRemoved, RowsCleared, OwnedRemoved, TableSet, OwnedAdded, AliveSet, MachineStarted, AliveCleared, MachineHalted, TurnTaken, SignalDelivered}
 use Rattle.world_model.specs.Ends.{ends}
-use Rattle.world_model.specs.Events.{Signal, Message, Exit, LinkExit, Down, Fate, Arrives, IsIgnored, IsDropped, Kills, Deed, Served, Refused, Ended, EndedItself, Received, TimedOut, RanAway, Delivered, History}
+use Rattle.world_model.specs.Events.{Signal, Fate, Arrives, IsIgnored, IsDropped, Kills, Deed, Served, Refused, Ended, EndedItself, Received, TimedOut, RanAway, Delivered, History}
 use Rattle.world_model.specs.TableAccess.{Found, access_rule_at, find, is_table_argument}
 use Rattle.world_model.specs.TableRules.{found_line, refusal_by, table_rule}
 use Rattle.world_model.specs.Lines.{line}
@@ -43,7 +43,7 @@ use Rattle.world_model.proofs.Matching.{Match}
 use Rattle.world_model.proofs.Named.{found_there}
 use Rattle.world_model.proofs.OwnerLaws.{heir_at, end_passes}
 use Rattle.world_model.proofs.Served.{Unrefused, unrefused_in}
-use Rattle.world_model.proofs.SortLaws.{untouched_by, table_among, call_leaves}
+use Rattle.world_model.proofs.SortLaws.{goes_off, untouched_by, table_among, call_leaves}
 use Rattle.world_model.proofs.Sorts.{is_among, table_sorts}
 
 HaveOwners : Contents → Type 0
@@ -199,11 +199,8 @@ end_owned v w p reason all lives had before_ = λ t x now.
 
 -- ---- every event, and every run
 
-goes_owned : (s r : Pid) (x : Signal) (w : Contents) → HaveOwners w → HaveOwners (after (goes_with s r x) w)
-goes_owned s r (Message m) w before_ = before_
-goes_owned s r (Exit reason) w before_ = before_
-goes_owned s r (LinkExit reason) w before_ = owned_same w (after (goes_with s r (LinkExit reason)) w) (λ t. refl) (λ q lives. lives) before_
-goes_owned s r (Down ref reason) w before_ = owned_same w (after (goes_with s r (Down ref reason)) w) (λ t. refl) (λ q lives. lives) before_
+goes_owned : (u : Contents) (s r : Pid) (x : Signal) (w : Contents) → HaveOwners w → HaveOwners (after (goes_with u s r x) w)
+goes_owned u s r x w before_ = owned_same w (after (goes_with u s r x) w) (λ t. stays (goes_with u s r x) w (Table t) (goes_off u s r x (Table t) refl)) (λ q lives. stays (goes_with u s r x) w (Alive q) (goes_off u s r x (Alive q) refl) ∙ lives) before_
 
 fate_owned : (v w : Contents) (r : Pid) (f : Fate) → ((t : Ref) → w (Table t) ≡ v (Table t)) → ((q : Pid) → w (Alive q) ≡ v (Alive q)) → Had v → HaveOwners v → HaveOwners (after (changes_of_fate v r f) w)
 fate_owned v w r (Arrives m) all lives had before_ = owned_same v (after (changes_of_fate v r (Arrives m)) w) all (λ q there. lives q ∙ there) before_
@@ -224,10 +221,10 @@ event_owned v (Turn p) (Ended reason) lives unrefused had before_ = end_owned v 
 event_owned v (Turn p) RanAway lives unrefused had before_ = end_owned v (changed (TurnTaken p []) v) p runaway (λ t. refl) (λ q. refl) had before_
 event_owned v (Turn p) (Delivered x f) lives unrefused had before_ = before_
 event_owned v (Deliver s r) (Delivered x f) lives unrefused had before_ =
-    let ks = goes_with s r x in
+    let ks = goes_with v s r x in
     let w = changed (SignalDelivered s r) v in
     subst HaveOwners (λ i c. sym (after_both ks (changes_of_fate (after ks v) r f) w c) i)
-    (fate_owned (after ks v) (after ks w) r f (λ t. follows ks w v (Table t) refl) (λ q. follows ks w v (Alive q) refl) (goes_had s r x v had) (goes_owned s r x v before_))
+    (fate_owned (after ks v) (after ks w) r f (λ t. follows ks w v (Table t) refl) (λ q. follows ks w v (Alive q) refl) (goes_had v s r x v had) (goes_owned v s r x v before_))
 event_owned v (Deliver s r) deed lives unrefused had before_ = before_
 
 run_owned : (a : Program) (h : History) → IsRun a h → HaveOwners (contents h)

@@ -3,23 +3,25 @@ use Rattle.std.proofs.Common.{◌≡◌, Bool, true, false, ◌&&◌, List, [], 
 use Rattle.term_core.specs.Meaning.{Meaning}
 use Rattle.term_core.specs.declared.step.Step.{Step}
 use Rattle.term_core.specs.declared.step.Step.TheVariants.{Deliver, Turn}
-use Rattle.world_model.specs.Calls.{Call, Spawn, Send, ToNobody, ToProcess, ToName, SendExit, Link, Unlink, Monitor, Demonitor, Flag, Register, Unregister, WhereIs, IsAlive, MakeRef, New, OnTable, Misfit, GiveAway, Lookup, Member, LookupElement, First, Last, Next, Prev, ToList, Insert, InsertNew, DeleteTable, DeleteKey, DeleteObject, DeleteAll, Take, UpdateCounter, UpdateElement, SetOptions, Info, call_of}
-use Rattle.world_model.specs.Cells.{Contents, Alive, Tail, Holder, Links, Trap, Owned, Table, Watchers, NameOf}
+use Rattle.world_model.specs.Calls.{Call, Spawn, Send, ToNobody, ToProcess, ToName, ToReference, SendExit, Link, Unlink, Monitor, Demonitor, Flag, Register, Unregister, WhereIs, IsAlive, MakeRef, MakeAlias, Unalias, StartTimer, CancelTimer, ReadTimer, New, OnTable, Misfit, GiveAway, Lookup, Member, LookupElement, First, Last, Next, Prev, ToList, Insert, InsertNew, DeleteTable, DeleteKey, DeleteObject, DeleteAll, Take, UpdateCounter, UpdateElement, SetOptions, Info, call_of}
+use Rattle.world_model.specs.Cells.{Contents, Alive, Tail, Holder, Links, Trap, Owned, Table, Watch, Watchers, Guard, NameOf}
 use Rattle.world_model.specs.Changes.{Change, SignalPut, after, changed, AliveCleared, TableNameCleared, OwnedCleared}
 use Rattle.world_model.specs.Ends.{passed, table_passes, tables_pass, partners_told, watchers_told, name_left, left_by, living_heir}
-use Rattle.world_model.specs.Events.{Signal, Message, Exit, History, LinkExit, Down, Fate, Delivered, Arrives, IsIgnored, IsDropped, Kills, Deed, Served, Refused, EndedItself, Ended, Received, TimedOut, RanAway}
+use Rattle.world_model.specs.Events.{Signal, Message, Exit, History, LinkExit, Down, Guarded, Elapsed, Fate, Delivered, Arrives, IsIgnored, IsDropped, Kills, Deed, Served, Refused, EndedItself, Ended, Received, TimedOut, RanAway}
+use Rattle.world_model.specs.Guards.{aliased, ends_by_reply}
 use Rattle.world_model.specs.TableAccess.{Found, find}
 use Rattle.world_model.specs.TableRules.{found_line}
 use Rattle.world_model.specs.Lines.{line}
 use Rattle.world_model.specs.Mail.{signals_to}
 use Rattle.world_model.specs.Names.{Pid, same_pid, Ref, Name}
-use Rattle.world_model.specs.Posted.{on_way, if_lives, put_for_holder, put_by_link, put_by_watch, put_by_gift, put_by_call, outlives, put_for_heir, put_for_table, put_for_heirs, put_for_partners, put_for_watchers, put_by_end, put_in, PutsAreTold}
-use Rattle.world_model.specs.ProcessLines.{sent, exited, sent_to_holder, LinkWay, Stands, Pairs, PairsGone, Fails, link_changes, link_way, gone_told, next_ref}
-use Rattle.world_model.specs.Signals.{put_if, goes_with}
+use Rattle.world_model.specs.Posted.{on_way, if_lives, put_for_holder, put_for_alias, put_by_link, put_by_watch, put_by_gift, put_by_call, outlives, put_for_heir, put_for_table, put_for_heirs, put_for_partners, put_for_watchers, put_by_end, put_in, PutsAreTold}
+use Rattle.world_model.specs.ProcessLines.{sent, exited, sent_to_holder, LinkWay, Stands, Pairs, PairsGone, Fails, link_changes, link_way, gone_told, next_child, next_ref, alias_begins, alias_beside, send_line, timer_message}
+use Rattle.world_model.specs.Signals.{put_if, goes_with, reply_ends}
 use Rattle.world_model.specs.Steps.{changes_of_fate, changes_by}
 use Rattle.world_model.specs.Tables as tables
 use Rattle.world_model.specs.Tables.{Heir}
 use Rattle.world_model.specs.World.{contents, beginning}
+use Rattle.world_model.specs.declared.alias.AliasEnd.{AliasEnd}
 use Rattle.world_model.proofs.MailLaws.{tail_told, nothing_more}
 use Rattle.world_model.proofs.SortLaws.{call_leaves}
 use Rattle.world_model.proofs.Sorts.{is_among, sorts_of}
@@ -60,6 +62,19 @@ holder_put : (h : History) (p : Pid) (o : Option Pid) (m : Meaning) (s r : Pid) 
 holder_put h p None m s r = refl
 holder_put h p (Some to) m s r = sent_put (same_pid p to) h p to m s r
 
+reply_put : (b : Bool) (ref : Ref) (o : Option Pid) (ks : List Change) (s r : Pid) → signals_to s r (reply_ends b ref o ++ ks) ≡ signals_to s r ks
+reply_put true ref None ks s r = refl
+reply_put true ref (Some q) ks s r = refl
+reply_put false ref o ks s r = refl
+
+alias_put : (h : History) (p : Pid) (ref : Ref) (o : Option Pid) (m : Meaning) (s r : Pid) → signals_to s r (send_line (contents h) p ref o m).changes ≡ put_for_alias h p o (Guarded ref m) s r
+alias_put h p ref None m s r = refl
+alias_put h p ref (Some to) m s r = if_put (contents h (Alive to)) p to (Guarded ref m) s r
+
+begins_put : (p : Pid) (ref : Ref) (o : Option AliasEnd) (ks : List Change) (s r : Pid) → signals_to s r (alias_begins p ref o ++ ks) ≡ signals_to s r ks
+begins_put p ref None ks s r = refl
+begins_put p ref (Some end) ks s r = refl
+
 link_put : (way : LinkWay) (p q s r : Pid) → signals_to s r (link_changes p q way) ≡ put_by_link way p q s r
 link_put Stands p q s r = refl
 link_put Pairs p q s r = refl
@@ -81,15 +96,17 @@ no_gift v p (Some f) gift_ s r = refl
 call_put : (h : History) (p : Pid) (call : Call) (s r : Pid) → signals_to s r (line (contents h) p call).changes ≡ put_by_call h p call s r
 call_put h p (Send ToNobody m) s r = refl
 call_put h p (Send (ToProcess to) m) s r = sent_put (same_pid p to) h p to m s r
+call_put h p (Send (ToReference ref) m) s r = alias_put h p ref (aliased (contents h (Guard ref))) m s r
 call_put h p (Send (ToName name) m) s r = holder_put h p (contents h (Holder name)) m s r
 call_put h p (SendExit None reason) s r = refl
 call_put h p (SendExit (Some to) reason) s r = exited_put (same_pid p to) h p to reason s r
 call_put h p (Link None) s r = refl
 call_put h p (Link (Some q)) s r = link_put (link_way p q (contents h (Links p)) (contents h (Alive q)) (contents h (Trap p))) p q s r
-call_put h p (Monitor true None) s r = refl
-call_put h p (Monitor false None) s r = refl
-call_put h p (Monitor false (Some q)) s r = refl
-call_put h p (Monitor true (Some q)) s r = gone_put (contents h (Alive q)) p q (next_ref (contents h) p) s r
+call_put h p (Monitor true None alias) s r = refl
+call_put h p (Monitor false None alias) s r = refl
+call_put h p (Monitor false (Some q) alias) s r = refl
+call_put h p (Monitor true (Some q) None) s r = refl
+call_put h p (Monitor true (Some q) (Some alias)) s r = begins_put p (next_ref (contents h) p) (alias_beside (same_pid p q) alias) (gone_told (contents h (Alive q)) p q (next_ref (contents h) p)) s r ∙ gone_put (contents h (Alive q)) p q (next_ref (contents h) p) s r
 call_put h p (OnTable argument (GiveAway None gift_)) s r = no_gift (contents h) p (find (contents h) argument) gift_ s r
 call_put h p (OnTable argument (GiveAway (Some to) gift_)) s r = gift_put (contents h) p (find (contents h) argument) to gift_ s r
 call_put h p (OnTable argument (Lookup key)) s r = silent_call (contents h) p (OnTable argument (Lookup key)) s r refl
@@ -120,6 +137,14 @@ call_put h p (Unregister n) s r = silent_call (contents h) p (Unregister n) s r 
 call_put h p (WhereIs n) s r = silent_call (contents h) p (WhereIs n) s r refl
 call_put h p (IsAlive q) s r = silent_call (contents h) p (IsAlive q) s r refl
 call_put h p MakeRef s r = refl
+call_put h p (MakeAlias end) s r = silent_call (contents h) p (MakeAlias end) s r refl
+call_put h p (Unalias ref) s r = silent_call (contents h) p (Unalias ref) s r refl
+call_put h p (StartTimer is_named None None m) s r = refl
+call_put h p (StartTimer is_named (Some time) None m) s r = refl
+call_put h p (StartTimer is_named None (Some to) m) s r = refl
+call_put h p (StartTimer is_named (Some time) (Some to) m) s r = if_put (contents h (Alive to)) (next_child (contents h) p) to (Elapsed (next_ref (contents h) p) (timer_message is_named (next_ref (contents h) p) m)) s r
+call_put h p (CancelTimer ref) s r = silent_call (contents h) p (CancelTimer ref) s r refl
+call_put h p (ReadTimer ref) s r = silent_call (contents h) p (ReadTimer ref) s r refl
 call_put h p (New name options) s r = silent_call (contents h) p (New name options) s r refl
 call_put h p Misfit s r = refl
 
@@ -178,17 +203,19 @@ end_put v p reason s r =
 
 -- ---- events
 
-goes_put : (t u : Pid) (x : Signal) (ks : List Change) (s r : Pid) → signals_to s r (goes_with t u x ++ ks) ≡ signals_to s r ks
-goes_put t u (Message m) ks s r = refl
-goes_put t u (Exit reason) ks s r = refl
-goes_put t u (LinkExit reason) ks s r = refl
-goes_put t u (Down ref reason) ks s r = refl
+goes_put : (v : Contents) (t u : Pid) (x : Signal) (ks : List Change) (s r : Pid) → signals_to s r (goes_with v t u x ++ ks) ≡ signals_to s r ks
+goes_put v t u (Message m) ks s r = refl
+goes_put v t u (Exit reason) ks s r = refl
+goes_put v t u (LinkExit reason) ks s r = refl
+goes_put v t u (Down ref reason) ks s r = refl
+goes_put v t u (Guarded ref m) ks s r = reply_put (ends_by_reply u (v (Guard ref))) ref (v (Watch ref)) ks s r
+goes_put v t u (Elapsed ref m) ks s r = refl
 
-fate_put : (h : History) (t u : Pid) (x : Signal) (f : Fate) (s r : Pid) → signals_to s r (changes_of_fate (after (goes_with t u x) (contents h)) u f) ≡ put_in h (Deliver t u) (Delivered x f) s r
+fate_put : (h : History) (t u : Pid) (x : Signal) (f : Fate) (s r : Pid) → signals_to s r (changes_of_fate (after (goes_with (contents h) t u x) (contents h)) u f) ≡ put_in h (Deliver t u) (Delivered x f) s r
 fate_put h t u x (Arrives m) s r = refl
 fate_put h t u x IsIgnored s r = refl
 fate_put h t u x IsDropped s r = refl
-fate_put h t u x (Kills reason) s r = end_put (after (goes_with t u x) (contents h)) u reason s r
+fate_put h t u x (Kills reason) s r = end_put (after (goes_with (contents h) t u x) (contents h)) u reason s r
 
 event_put : (h : History) (step : Step) (deed : Deed) (s r : Pid) → signals_to s r (changes_by (contents h) step deed) ≡ put_in h step deed s r
 event_put h (Turn p) (Served kind arguments answer) s r = call_put h p (call_of kind arguments) s r
@@ -200,7 +227,7 @@ event_put h (Turn p) (Ended reason) s r = end_put (contents h) p reason s r
 event_put h (Turn p) RanAway s r = end_put (contents h) p _ s r
 event_put h (Turn p) (Delivered x f) s r = refl
 event_put h (Deliver t u) (Delivered x f) s r =
-    goes_put t u x (changes_of_fate (after (goes_with t u x) (contents h)) u f) s r ∙ fate_put h t u x f s r
+    goes_put (contents h) t u x (changes_of_fate (after (goes_with (contents h) t u x) (contents h)) u f) s r ∙ fate_put h t u x f s r
 event_put h (Deliver t u) deed s r = refl
 
 pub puts_told : PutsAreTold

@@ -1,13 +1,14 @@
 -- A served call writes cells of its sorts alone.
 use Rattle.std.proofs.Common.{◌∙◌, refl, sym, ap, true≢false}
 use Rattle.std.specs.List.{list_any}
-use Rattle.std.specs.Prelude.{true, false, List, ◌∷◌, ◌==◌, ◌≡◌, ◌++◌, if◌then◌else◌, ◌||◌, ℕ, [], Bool, Option, None, Some, map}
+use Rattle.std.specs.Prelude.{true, false, List, ◌∷◌, ◌==◌, ◌≡◌, ◌++◌, if◌then◌else◌, ◌||◌, ℕ, [], Bool, Option, None, Some, is_some, map}
 use Rattle.term_core.specs.Meaning.{Meaning}
-use Rattle.world_model.specs.Calls.{Call, Spawn, SpawnWay, Alone, Link, Linked, Watched, TableCall, Insert, InsertNew, New, DeleteTable, DeleteKey, DeleteObject, DeleteAll, Take, UpdateCounter, UpdateElement, GiveAway, SetOptions, Send, ToNobody, ToProcess, ToName, SendExit, Unlink, Monitor, Demonitor, Flag, Register, Unregister, WhereIs, IsAlive, MakeRef, OnTable, Misfit, First}
-use Rattle.world_model.specs.Cells.{Watch, Alive, Cell, meet, Row, Tail, Contents, Holder, Links, Trap, TableName, Machine, Taken, Mailed, Front}
+use Rattle.world_model.specs.Calls.{Call, Spawn, SpawnWay, Alone, Link, Linked, Watched, TableCall, Insert, InsertNew, New, DeleteTable, DeleteKey, DeleteObject, DeleteAll, Take, UpdateCounter, UpdateElement, GiveAway, SetOptions, Send, ToNobody, ToProcess, ToName, ToReference, SendExit, Unlink, Monitor, Demonitor, Flag, Register, Unregister, WhereIs, IsAlive, MakeRef, MakeAlias, Unalias, StartTimer, CancelTimer, ReadTimer, OnTable, Misfit, First}
+use Rattle.world_model.specs.Cells.{Watch, Guard, Alive, Cell, meet, Row, Tail, Contents, Holder, Links, Trap, TableName, Machine, Taken, Mailed, Front}
 use Rattle.world_model.specs.Changes.{Change, cell_of, HeirSet, after, is_of_watch}
 use Rattle.world_model.specs.Ends.{name_freed}
-use Rattle.world_model.specs.Events.{Exit, Signal, Message}
+use Rattle.world_model.specs.Events.{Exit, Signal, Message, LinkExit, Down, Guarded, Elapsed}
+use Rattle.world_model.specs.Guards.{aliased, is_alias_of, ends_by_reply, timer_in}
 use Rattle.world_model.specs.TableAccess.{Found, find}
 use Rattle.world_model.specs.TableRules.{found_line}
 use Rattle.world_model.specs.Lines.{line}
@@ -16,19 +17,20 @@ use Rattle.world_model.specs.Names.{Name, Ref, Pid, same_pid}
 use Rattle.world_model.specs.NewTables.{new_line, new_rule}
 use Rattle.world_model.specs.Objects.{stored_at, stores, removed_at, given, one_present, keys_asked}
 use Rattle.world_model.specs.Ownership.{heirs_set}
-use Rattle.world_model.specs.ProcessLines.{sent, bound, exited, sent_to_holder, LinkWay, link_changes, Stands, Pairs, PairsGone, Fails, gone_told, watch_ends, flushed, unregister_line, next_child, next_ref, link_way}
+use Rattle.world_model.specs.ProcessLines.{sent, bound, exited, sent_to_holder, LinkWay, link_changes, Stands, Pairs, PairsGone, Fails, gone_told, watch_ends, flushed, unregister_line, next_child, next_ref, link_way, send_line, alias_begins, alias_beside, timer_message}
 use Rattle.world_model.specs.Requests.{Origin}
 use Rattle.world_model.specs.Rows.{Key, Object, part_at}
-use Rattle.world_model.specs.Signals.{put_if}
+use Rattle.world_model.specs.Signals.{put_if, goes_with, reply_ends}
 use Rattle.world_model.specs.TableLines.{table_line}
 use Rattle.world_model.specs.Tables as tables
 use Rattle.world_model.specs.Tables.{Heir, is_named, TableOption}
 use Rattle.world_model.specs.World.{table}
 use Rattle.world_model.specs.declared.rule.Rule.{Rule}
+use Rattle.world_model.specs.declared.alias.AliasEnd.{AliasEnd}
 use Rattle.world_model.proofs.Commuting.{stays}
 use Rattle.world_model.proofs.Meeting.{whole, whole_same}
 use Rattle.world_model.proofs.Outcomes.{touches}
-use Rattle.world_model.proofs.Sorts.{is_among, sort_of, sorts_of, table_sorts}
+use Rattle.world_model.proofs.Sorts.{is_among, send_sorts, sort_of, sorts_of, table_sorts}
 
 abbrev pub AllAmong : List ℕ → List Change → Type 0
 AllAmong sorts [] = Unit {0}
@@ -69,17 +71,44 @@ pub put_among : (sorts : List ℕ) (b : Bool) (s r : Pid) (x : Signal) → is_am
 put_among sorts true s r x is = (is, tt)
 put_among sorts false s r x is = tt
 
-sent_among : (b : Bool) (v : Contents) (p to : Pid) (m : Meaning) → AllAmong (3 ∷ 5 ∷ []) (sent b v p to m)
+-- what goes with a signal
+abbrev pub goes_sorts : List ℕ
+goes_sorts = 6 ∷ 7 ∷ 8 ∷ 16 ∷ []
+
+reply_among : (sorts : List ℕ) (b : Bool) (ref : Ref) (o : Option Pid) → (list_any (λ n. n == 16) sorts ≡ true) → (list_any (λ n. n == 8) sorts ≡ true) → (list_any (λ n. n == 7) sorts ≡ true) → AllAmong sorts (reply_ends b ref o)
+reply_among sorts true ref None guard watch watcher = (guard, tt)
+reply_among sorts true ref (Some q) guard watch watcher = (guard, (watch, (watcher, tt)))
+reply_among sorts false ref o guard watch watcher = tt
+
+pub reply_off : (b : Bool) (ref : Ref) (o : Option Pid) (c : Cell) → is_among (16 ∷ 8 ∷ 7 ∷ []) c ≡ false → touches (reply_ends b ref o) c ≡ false
+reply_off b ref o c other = untouched_by (16 ∷ 8 ∷ 7 ∷ []) (reply_ends b ref o) c (reply_among (16 ∷ 8 ∷ 7 ∷ []) b ref o refl refl refl) other
+
+goes_among : (v : Contents) (s r : Pid) (x : Signal) → AllAmong goes_sorts (goes_with v s r x)
+goes_among v s r (Message m) = tt
+goes_among v s r (Exit reason) = tt
+goes_among v s r (LinkExit reason) = (refl, (refl, tt))
+goes_among v s r (Down ref reason) = (refl, (refl, (refl, tt)))
+goes_among v s r (Guarded ref m) = reply_among goes_sorts (ends_by_reply r (v (Guard ref))) ref (v (Watch ref)) refl refl refl
+goes_among v s r (Elapsed ref m) = (refl, tt)
+
+pub goes_off : (v : Contents) (s r : Pid) (x : Signal) (c : Cell) → is_among goes_sorts c ≡ false → touches (goes_with v s r x) c ≡ false
+goes_off v s r x c other = untouched_by goes_sorts (goes_with v s r x) c (goes_among v s r x) other
+
+sent_among : (b : Bool) (v : Contents) (p to : Pid) (m : Meaning) → AllAmong send_sorts (sent b v p to m)
 sent_among true v p to m = (refl, tt)
-sent_among false v p to m = put_among (3 ∷ 5 ∷ []) (v (Alive to)) p to (Message m) refl
+sent_among false v p to m = put_among send_sorts (v (Alive to)) p to (Message m) refl
 
 exited_among : (b : Bool) (v : Contents) (p to : Pid) (m : Meaning) → AllAmong (3 ∷ 5 ∷ []) (exited b v p to m)
 exited_among true v p to m = (refl, tt)
 exited_among false v p to m = put_among (3 ∷ 5 ∷ []) (v (Alive to)) p to (Exit m) refl
 
-holder_among : (v : Contents) (p : Pid) (o : Option Pid) (m : Meaning) → AllAmong (3 ∷ 5 ∷ []) (sent_to_holder v p o m)
+holder_among : (v : Contents) (p : Pid) (o : Option Pid) (m : Meaning) → AllAmong send_sorts (sent_to_holder v p o m)
 holder_among v p None m = tt
 holder_among v p (Some to) m = sent_among (same_pid p to) v p to m
+
+aliased_among : (v : Contents) (p : Pid) (ref : Ref) (o : Option Pid) (m : Meaning) → AllAmong send_sorts (send_line v p ref o m).changes
+aliased_among v p ref None m = tt
+aliased_among v p ref (Some to) m = put_among send_sorts (v (Alive to)) p to (Guarded ref m) refl
 
 link_among : (p q : Pid) (way : LinkWay) → AllAmong (6 ∷ 5 ∷ []) (link_changes p q way)
 link_among p q Stands = (refl, (refl, tt))
@@ -87,15 +116,19 @@ link_among p q Pairs = (refl, (refl, tt))
 link_among p q PairsGone = (refl, (refl, (refl, tt)))
 link_among p q Fails = tt
 
-gone_among : (b : Bool) (p q : Pid) (ref : Ref) → AllAmong (8 ∷ 7 ∷ 5 ∷ []) (gone_told b p q ref)
+begins_among : (p : Pid) (ref : Ref) (o : Option AliasEnd) → AllAmong (8 ∷ 7 ∷ 16 ∷ 5 ∷ []) (alias_begins p ref o)
+begins_among p ref None = tt
+begins_among p ref (Some end) = (refl, tt)
+
+gone_among : (b : Bool) (p q : Pid) (ref : Ref) → AllAmong (8 ∷ 7 ∷ 16 ∷ 5 ∷ []) (gone_told b p q ref)
 gone_among true p q ref = tt
 gone_among false p q ref = (refl, tt)
 
-watch_among : (p : Pid) (ref : Ref) (o : Option Pid) → AllAmong (8 ∷ 7 ∷ 15 ∷ []) (watch_ends p ref o)
+watch_among : (p : Pid) (ref : Ref) (o : Option Pid) → AllAmong (8 ∷ 7 ∷ 16 ∷ 15 ∷ []) (watch_ends p ref o)
 watch_among p ref None = (refl, tt)
-watch_among p ref (Some q) = among_if (8 ∷ 7 ∷ 15 ∷ []) (same_pid ref.pid p) _ _ (refl, (refl, tt)) (refl, (refl, tt))
+watch_among p ref (Some q) = among_if (8 ∷ 7 ∷ 16 ∷ 15 ∷ []) (same_pid ref.pid p) _ _ (refl, (refl, (refl, tt))) (refl, (refl, tt))
 
-flushed_among : (b : Bool) (p : Pid) (o : Option Meaning) → AllAmong (8 ∷ 7 ∷ 15 ∷ []) (flushed b p o)
+flushed_among : (b : Bool) (p : Pid) (o : Option Meaning) → AllAmong (8 ∷ 7 ∷ 16 ∷ 15 ∷ []) (flushed b p o)
 flushed_among false p o = tt
 flushed_among true p None = tt
 flushed_among true p (Some m) = (refl, tt)
@@ -158,6 +191,7 @@ call_among v p (Spawn way None) = tt
 call_among v p (Spawn way (Some origin)) = (refl, (refl, bound_among way p (next_child v p) (next_ref v p) (Some origin)))
 call_among v p (Send ToNobody m) = tt
 call_among v p (Send (ToProcess q) m) = sent_among (same_pid p q) v p q m
+call_among v p (Send (ToReference ref) m) = aliased_among v p ref (aliased (v (Guard ref))) m
 call_among v p (Send (ToName name) m) = holder_among v p (v (Holder name)) m
 call_among v p (SendExit None reason) = tt
 call_among v p (SendExit (Some q) reason) = exited_among (same_pid p q) v p q reason
@@ -165,14 +199,16 @@ call_among v p (Link None) = tt
 call_among v p (Link (Some q)) = link_among p q (link_way p q (v (Links p)) (v (Alive q)) (v (Trap p)))
 call_among v p (Unlink None) = tt
 call_among v p (Unlink (Some q)) = (refl, (refl, tt))
-call_among v p (Monitor is_process None) = tt
-call_among v p (Monitor false (Some q)) = tt
-call_among v p (Monitor true (Some q)) = (refl, (refl, gone_among (v (Alive q)) p q (next_ref v p)))
+call_among v p (Monitor is_process None alias) = tt
+call_among v p (Monitor false (Some q) alias) = tt
+call_among v p (Monitor true (Some q) None) = tt
+call_among v p (Monitor true (Some q) (Some alias)) =
+    (refl, (refl, among_both (8 ∷ 7 ∷ 16 ∷ 5 ∷ []) (alias_begins p (next_ref v p) (alias_beside (same_pid p q) alias)) (gone_told (v (Alive q)) p q (next_ref v p)) (begins_among p (next_ref v p) (alias_beside (same_pid p q) alias)) (gone_among (v (Alive q)) p q (next_ref v p))))
 call_among v p (Demonitor None flushes) = tt
 call_among v p (Demonitor (Some ref) None) = tt
 call_among v p (Demonitor (Some ref) (Some flushes)) =
     let found = selected_of (is_of_watch ref) (mailbox_in v p) in
-    among_both (8 ∷ 7 ∷ 15 ∷ []) (watch_ends p ref (v (Watch ref))) (flushed flushes p found) (watch_among p ref (v (Watch ref))) (flushed_among flushes p found)
+    among_both (8 ∷ 7 ∷ 16 ∷ 15 ∷ []) (watch_ends p ref (v (Watch ref))) (flushed flushes p found) (watch_among p ref (v (Watch ref))) (flushed_among flushes p found)
 call_among v p (Flag None) = tt
 call_among v p (Flag (Some b)) = (refl, tt)
 call_among v p (Register None None) = tt
@@ -186,6 +222,17 @@ call_among v p (WhereIs (Some n)) = tt
 call_among v p (IsAlive None) = tt
 call_among v p (IsAlive (Some q)) = tt
 call_among v p MakeRef = tt
+call_among v p (MakeAlias None) = tt
+call_among v p (MakeAlias (Some end)) = (refl, tt)
+call_among v p (Unalias None) = tt
+call_among v p (Unalias (Some ref)) = among_if (16 ∷ []) (is_alias_of p (v (Guard ref))) _ [] (refl, tt) tt
+call_among v p (StartTimer is_named time None m) = tt
+call_among v p (StartTimer is_named None (Some q) m) = tt
+call_among v p (StartTimer is_named (Some time) (Some q) m) = (refl, put_among (16 ∷ 5 ∷ []) (v (Alive q)) (next_child v p) q (Elapsed (next_ref v p) (timer_message is_named (next_ref v p) m)) refl)
+call_among v p (CancelTimer None) = tt
+call_among v p (CancelTimer (Some ref)) = among_if (16 ∷ []) (is_some (timer_in (v (Guard ref)))) _ [] (refl, tt) tt
+call_among v p (ReadTimer None) = tt
+call_among v p (ReadTimer (Some ref)) = tt
 call_among v p (New None options) = tt
 call_among v p (New (Some name) options) = made_among p (next_ref v p) name options (new_rule options (v (TableName name)))
 call_among v p (OnTable argument call) = found_among v p call (find v argument)
@@ -219,6 +266,10 @@ none_taken call q = refl
 pub no_link : (call : TableCall) (q : Pid) → is_among (table_sorts call) (Links q) ≡ false
 no_link First q = refl
 no_link call q = refl
+
+pub no_guard : (call : TableCall) (ref : Ref) → is_among (table_sorts call) (Guard ref) ≡ false
+no_guard First ref = refl
+no_guard call ref = refl
 
 pub no_watch : (call : TableCall) (ref : Ref) → is_among (table_sorts call) (Watch ref) ≡ false
 no_watch First ref = refl

@@ -1,8 +1,8 @@
 -- The sorts of cells, and which sorts a served call may write.
 use Rattle.std.specs.List.{list_any}
 use Rattle.std.specs.Prelude.{◌∷◌, ◌==◌, ℕ, List, Bool, []}
-use Rattle.world_model.specs.Calls.{Link, TableCall, Call, Insert, InsertNew, New, DeleteTable, DeleteKey, DeleteObject, DeleteAll, Take, UpdateCounter, UpdateElement, GiveAway, SetOptions, Spawn, Send, SendExit, Unlink, Monitor, Demonitor, Flag, Register, Unregister, WhereIs, IsAlive, MakeRef, OnTable, Misfit}
-use Rattle.world_model.specs.Cells.{Cell, Machine, Alive, Trap, Taken, Mailed, Front, Tail, Links, Watch, Watchers, Holder, NameOf, TableName, Table, Owned, Row, Rows}
+use Rattle.world_model.specs.Calls.{Link, TableCall, Call, Insert, InsertNew, New, DeleteTable, DeleteKey, DeleteObject, DeleteAll, Take, UpdateCounter, UpdateElement, GiveAway, SetOptions, Spawn, Send, SendExit, Unlink, Monitor, Demonitor, Flag, Register, Unregister, WhereIs, IsAlive, MakeRef, MakeAlias, Unalias, StartTimer, CancelTimer, ReadTimer, OnTable, Misfit}
+use Rattle.world_model.specs.Cells.{Cell, Machine, Alive, Trap, Taken, Mailed, Front, Tail, Links, Watch, Watchers, Guard, Holder, NameOf, TableName, Table, Owned, Row, Rows}
 
 abbrev pub sort_of : Cell → ℕ
 sort_of (Machine p) = 0
@@ -15,6 +15,7 @@ sort_of (Tail s r) = 5
 sort_of (Links p) = 6
 sort_of (Watchers p) = 7
 sort_of (Watch ref) = 8
+sort_of (Guard ref) = 16
 sort_of (Holder n) = 9
 sort_of (NameOf p) = 10
 sort_of (TableName n) = 11
@@ -40,20 +41,28 @@ table_sorts (GiveAway to gift_) = 12 ∷ 13 ∷ 5 ∷ []
 table_sorts (SetOptions heirs) = 12 ∷ []
 table_sorts call = []
 
+abbrev pub send_sorts : List ℕ
+send_sorts = 3 ∷ 5 ∷ []
+
 abbrev pub sorts_of : Call → List ℕ
 sorts_of (Spawn way origin) = 0 ∷ 1 ∷ 6 ∷ 7 ∷ 8 ∷ []
-sorts_of (Send to m) = 3 ∷ 5 ∷ []
+sorts_of (Send to m) = send_sorts
 sorts_of (SendExit to reason) = 3 ∷ 5 ∷ []
 sorts_of (Link q) = 6 ∷ 5 ∷ []
 sorts_of (Unlink q) = 6 ∷ []
-sorts_of (Monitor is_process q) = 8 ∷ 7 ∷ 5 ∷ []
-sorts_of (Demonitor ref flush) = 8 ∷ 7 ∷ 15 ∷ []
+sorts_of (Monitor is_process q alias) = 8 ∷ 7 ∷ 16 ∷ 5 ∷ []
+sorts_of (Demonitor ref flush) = 8 ∷ 7 ∷ 16 ∷ 15 ∷ []
 sorts_of (Flag b) = 2 ∷ []
 sorts_of (Register n q) = 9 ∷ 10 ∷ []
 sorts_of (Unregister n) = 9 ∷ 10 ∷ []
 sorts_of (WhereIs n) = []
 sorts_of (IsAlive q) = []
 sorts_of MakeRef = []
+sorts_of (MakeAlias end) = 16 ∷ []
+sorts_of (Unalias ref) = 16 ∷ []
+sorts_of (StartTimer is_named time to m) = 16 ∷ 5 ∷ []
+sorts_of (CancelTimer ref) = 16 ∷ []
+sorts_of (ReadTimer ref) = []
 sorts_of (New name options) = 12 ∷ 11 ∷ 13 ∷ []
 sorts_of (OnTable argument call) = table_sorts call
 sorts_of Misfit = []

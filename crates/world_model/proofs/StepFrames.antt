@@ -8,19 +8,20 @@ use Rattle.term_core.specs.declared.step.Step.TheVariants.{Turn, Deliver}
 use Rattle.core_calls.specs.declared.call.CallKind.{CallKind}
 use Rattle.core_semantics.specs.Asked as answered
 use Rattle.world_model.specs.Calls.{Call, SendExit, IsAlive, call_of}
-use Rattle.world_model.specs.Cells.{Contents, Trap, Alive, Machine, Front, Links}
+use Rattle.world_model.specs.Cells.{Contents, Trap, Alive, Machine, Front, Links, Watch, Guard}
 use Rattle.world_model.specs.Changes.{TurnTaken, Change, after, SignalDelivered}
 use Rattle.world_model.specs.Ends.{reads_of_end}
-use Rattle.world_model.specs.Events.{Exit, Refusal, Served, EndedItself, Ended, Deed, RanAway, Signal, Message, LinkExit, Down, Fate, Arrives, IsIgnored, IsDropped, Kills, Delivered}
+use Rattle.world_model.specs.Events.{Exit, Refusal, Served, EndedItself, Ended, Deed, RanAway, Signal, Message, LinkExit, Down, Guarded, Elapsed, Fate, Arrives, IsIgnored, IsDropped, Kills, Delivered}
 use Rattle.world_model.specs.Frames.{Sees, AgreeOn}
+use Rattle.world_model.specs.Guards.{is_alias_of, ends_by_reply, timer_in}
 use Rattle.world_model.specs.Lines.{line}
 use Rattle.world_model.specs.Mailboxes.{mailbox_in, selected_of, reads_to_pick}
 use Rattle.world_model.specs.Names.{Pid, same_pid}
 use Rattle.world_model.specs.ProcessLines.{read_of_target}
 use Rattle.world_model.specs.Requests.{Request, Calls, Receives, Ends, RunsAway, Program}
-use Rattle.world_model.specs.Signals.{reads_of_fate, trap_if, fate_of, exit_fate, link_fate, down_fate, goes_with, first_of, waiting_in}
+use Rattle.world_model.specs.Signals.{reads_of_fate, trap_if, fate_of, exit_fate, link_fate, down_fate, guarded_fate, watch_if, reply_ends, goes_with, first_of, waiting_in}
 use Rattle.world_model.specs.Steps.{own_end, ends_itself, reads, must_wait, judged, reads_if_ended, ended_or, deed_asked, asked, reads_of_request, reads_of_call, received, runaway, reads_if_killed, changes_of_fate, deed_delivered, reads_of_signal}
-use Rattle.world_model.proofs.CallFrames.{call_framed, selected_framed}
+use Rattle.world_model.proofs.CallFrames.{call_framed, selected_framed, reply_framed}
 use Rattle.world_model.proofs.EndFrames.{ends_framed, same_of, SameOn, same_after_both}
 use Rattle.world_model.proofs.Outcomes.{with_changes, Outcome, outcome}
 use Rattle.world_model.proofs.TableFrames.{agree_parts}
@@ -118,12 +119,25 @@ fate_framed v w s r (Message m) agree = refl
 fate_framed v w s r (Exit reason) agree = λ i. exit_fate (agree.0.0 i) false s reason
 fate_framed v w s r (LinkExit reason) agree = link_framed v w s r reason (list_any (same_pid s) (v (Links r))) agree.1.1 ∙ ap (λ qs. link_fate (list_any (same_pid s) qs) (w (Trap r)) s reason) agree.0.0
 fate_framed v w s r (Down ref reason) agree = λ i. down_fate (agree.0.0 i) ref s reason
+fate_framed v w s r (Guarded ref m) agree = λ i. guarded_fate (is_alias_of r (agree.0.0 i)) m
+fate_framed v w s r (Elapsed ref m) agree = λ i. guarded_fate (is_some (timer_in (agree.0.0 i))) m
 
 fate_reads_framed : (v w : Contents) (s r : Pid) (x : Signal) → AgreeOn v w (reads_of_fate v s r x) → reads_of_fate v s r x ≡ reads_of_fate w s r x
 fate_reads_framed v w s r (Message m) agree = refl
 fate_reads_framed v w s r (Exit reason) agree = refl
 fate_reads_framed v w s r (LinkExit reason) agree = ap (λ qs. Links r ∷ Links s ∷ trap_if (list_any (same_pid s) qs) r) agree.0.0
 fate_reads_framed v w s r (Down ref reason) agree = refl
+fate_reads_framed v w s r (Guarded ref m) agree = λ i. Guard ref ∷ watch_if (ends_by_reply r (agree.0.0 i)) ref
+fate_reads_framed v w s r (Elapsed ref m) agree = refl
+
+-- what goes with it is settled too
+goes_framed : (v w : Contents) (s r : Pid) (x : Signal) → AgreeOn v w (reads_of_fate v s r x) → goes_with v s r x ≡ goes_with w s r x
+goes_framed v w s r (Message m) agree = refl
+goes_framed v w s r (Exit reason) agree = refl
+goes_framed v w s r (LinkExit reason) agree = refl
+goes_framed v w s r (Down ref reason) agree = refl
+goes_framed v w s r (Guarded ref m) agree = reply_framed v w ref (ends_by_reply r (v (Guard ref))) agree.1 ∙ (λ i. reply_ends (ends_by_reply r (agree.0.0 i)) ref (w (Watch ref)))
+goes_framed v w s r (Elapsed ref m) agree = refl
 
 effect_framed : (ks : List Change) (v w : Contents) (r : Pid) (f : Fate) → SameOn v w (reads_if_killed (after ks v) r f) → (changes_of_fate (after ks v) r f ≡ changes_of_fate (after ks w) r f) × (reads_if_killed (after ks v) r f ≡ reads_if_killed (after ks w) r f)
 effect_framed ks v w r (Arrives m) same = (refl, refl)
@@ -137,11 +151,14 @@ delivers v s r o = option_map (with_changes v (Deliver s r)) (deed_delivered v s
 signal_framed : (v w : Contents) (s r : Pid) (o : Option Signal) → AgreeOn v w (reads_of_signal v s r o) → (delivers v s r o ≡ delivers w s r o) × (reads_of_signal v s r o ≡ reads_of_signal w s r o)
 signal_framed v w s r None agree = (refl, refl)
 signal_framed v w s r (Some x) agree =
-    let ks = goes_with s r x in
+    let ks = goes_with v s r x in
     let parts = agree_parts v w (reads_of_fate v s r x) (reads_if_killed (after ks v) r (fate_of v s r x)) agree in
     let fates = fate_framed v w s r x parts.0 in
     let effect = effect_framed ks v w r (fate_of v s r x) (same_of v w (reads_if_killed (after ks v) r (fate_of v s r x)) parts.1) in
-    ((λ i. Some ((Delivered x (fates i), SignalDelivered s r ∷ (ks ++ (effect.0 ∙ ap (changes_of_fate (after ks w) r) fates) i)))), (λ i. fate_reads_framed v w s r x parts.0 i ++ (effect.1 ∙ ap (reads_if_killed (after ks w) r) fates) i))
+    let goes = goes_framed v w s r x parts.0 in (
+      (λ i. Some ((Delivered x (fates i), SignalDelivered s r ∷ (goes i ++ (effect.0 ∙ (λ j. changes_of_fate (after (goes j) w) r (fates j))) i)))),
+      (λ i. fate_reads_framed v w s r x parts.0 i ++ (effect.1 ∙ (λ j. reads_if_killed (after (goes j) w) r (fates j))) i),
+    )
 
 first_framed : (v w : Contents) (s r : Pid) (o : Option Signal) → first_of (waiting_in v s r) ≡ o → Sees v w (Front s r) → AgreeOn v w (reads_of_signal v s r o) → first_of (waiting_in w s r) ≡ o
 first_framed v w s r None is front agree = sym (λ i. first_of (drop (front.0 i) (agree.0.0 i))) ∙ is

@@ -5,10 +5,10 @@ use Rattle.std.specs.Prelude.{option_map}
 use Rattle.term_core.specs.declared.step.Step.{Step}
 use Rattle.term_core.specs.declared.step.Step.TheVariants.{Deliver, Turn}
 use Rattle.world_model.specs.Calls.{TableCall, Call, DeleteTable, GiveAway, SetOptions, New, OnTable, call_of, Insert, InsertNew, DeleteKey, DeleteObject, DeleteAll, Take, UpdateCounter, UpdateElement}
-use Rattle.world_model.specs.Cells.{Table, Contents, TableName, Cell, Alive, Owned, Row}
+use Rattle.world_model.specs.Cells.{Table, Contents, TableName, Alive, Owned, Row}
 use Rattle.world_model.specs.Changes.{after, HeirSet, changed, TableNameCleared, TableRemoved, RowsCleared, OwnedRemoved, TableSet, OwnedAdded, AliveCleared, MachineHalted, TurnTaken, SignalDelivered}
 use Rattle.world_model.specs.Ends.{living_heir}
-use Rattle.world_model.specs.Events.{History, Signal, Message, Exit, LinkExit, Down, Fate, Delivered, Arrives, IsIgnored, IsDropped, Kills, Deed, Served, Refused, Ended, EndedItself, Received, TimedOut, RanAway}
+use Rattle.world_model.specs.Events.{History, Signal, Fate, Delivered, Arrives, IsIgnored, IsDropped, Kills, Deed, Served, Refused, Ended, EndedItself, Received, TimedOut, RanAway}
 use Rattle.world_model.specs.TableAccess.{Found, find}
 use Rattle.world_model.specs.TableRules.{found_line}
 use Rattle.world_model.specs.Lines.{line}
@@ -31,11 +31,10 @@ use Rattle.world_model.specs.declared.rule.Rule.{Rule}
 use Rattle.world_model.proofs.Commuting.{either_way, stays}
 use Rattle.world_model.proofs.EndSorts.{after_both}
 use Rattle.world_model.proofs.Meeting.{refs_same}
-use Rattle.world_model.proofs.Outcomes.{touches}
 use Rattle.world_model.proofs.OwnerLaws.{call_keeps, end_passes, rows_pass}
 use Rattle.world_model.proofs.RowsWritten.{call_leaves_rows}
-use Rattle.world_model.proofs.SortLaws.{untouched_by, table_among, call_leaves}
-use Rattle.world_model.proofs.Sorts.{table_sorts, is_among}
+use Rattle.world_model.proofs.SortLaws.{goes_off, untouched_by, table_among, call_leaves}
+use Rattle.world_model.proofs.Sorts.{table_sorts}
 
 -- ---- a call of one table leaves the others
 
@@ -83,12 +82,6 @@ call_table h w p call t = call_leaves (contents h) w p call (Table t) refl
 
 -- ---- an end, with what a signal takes before it
 
-goes_off : (s r : Pid) (c : Cell) (x : Signal) → is_among (6 ∷ 7 ∷ 8 ∷ []) c ≡ false → touches (goes_with s r x) c ≡ false
-goes_off s r c (Message m) other = refl
-goes_off s r c (Exit reason) other = refl
-goes_off s r c (LinkExit reason) other = untouched_by (6 ∷ 7 ∷ 8 ∷ []) (goes_with s r (LinkExit reason)) c (refl, (refl, tt)) other
-goes_off s r c (Down ref reason) other = untouched_by (6 ∷ 7 ∷ 8 ∷ []) (goes_with s r (Down ref reason)) c (refl, (refl, tt)) other
-
 heir_same : (v w : Contents) (p : Pid) (o : Heir) → ((q : Pid) → v (Alive q) ≡ w (Alive q)) → living_heir (changed (AliveCleared p) v) o ≡ living_heir (changed (AliveCleared p) w) o
 heir_same v w p None same = refl
 heir_same v w p (Some heir) same = ap (λ x. if (if same_pid p heir.0 then false else x) then Some heir else None) (same heir.0)
@@ -111,12 +104,12 @@ told_table h (Turn p) (Ended reason) t = end_passes (changed (AliveCleared p) (c
 told_table h (Turn p) RanAway t = end_passes (changed (AliveCleared p) (contents h)) (changed (AliveCleared p) (changed (MachineHalted p runaway) (changed (TurnTaken p []) (contents h)))) p runaway t
 told_table h (Turn p) (Delivered x f) t = refl
 told_table h (Deliver s r) (Delivered x f) t =
-    let ks = goes_with s r x in
+    let ks = goes_with (contents h) s r x in
     let w = changed (SignalDelivered s r) (contents h) in
     let v = after ks (contents h) in
     after_both ks (changes_of_fate v r f) w (Table t)
-    ∙ fate_table h s r x f v (after ks w) t (λ q. stays ks (contents h) (Alive q) (goes_off s r (Alive q) x refl)) (stays ks (contents h) (Owned r) (goes_off s r (Owned r) x refl)) (stays ks (contents h) (Table t) (goes_off s r (Table t) x refl))
-    ∙ ap (passed_at_end h (ended_in (Deliver s r) (Delivered x f)) t) (stays ks w (Table t) (goes_off s r (Table t) x refl))
+    ∙ fate_table h s r x f v (after ks w) t (λ q. stays ks (contents h) (Alive q) (goes_off (contents h) s r x (Alive q) refl)) (stays ks (contents h) (Owned r) (goes_off (contents h) s r x (Owned r) refl)) (stays ks (contents h) (Table t) (goes_off (contents h) s r x (Table t) refl))
+    ∙ ap (passed_at_end h (ended_in (Deliver s r) (Delivered x f)) t) (stays ks w (Table t) (goes_off (contents h) s r x (Table t) refl))
 told_table h (Deliver s r) deed t = refl
 
 pub table_told : TableIsTold
@@ -191,12 +184,12 @@ told_rows h (Turn p) (Ended reason) t k = rows_pass (changed (AliveCleared p) (c
 told_rows h (Turn p) RanAway t k = rows_pass (changed (AliveCleared p) (contents h)) (changed (AliveCleared p) (changed (MachineHalted p runaway) (changed (TurnTaken p []) (contents h)))) p runaway t k
 told_rows h (Turn p) (Delivered x f) t k = refl
 told_rows h (Deliver s r) (Delivered x f) t k =
-    let ks = goes_with s r x in
+    let ks = goes_with (contents h) s r x in
     let w = changed (SignalDelivered s r) (contents h) in
     let v = after ks (contents h) in
     after_both ks (changes_of_fate v r f) w (Row t k)
-    ∙ fate_rows h s r x f v (after ks w) t k (λ q. stays ks (contents h) (Alive q) (goes_off s r (Alive q) x refl)) (stays ks (contents h) (Owned r) (goes_off s r (Owned r) x refl)) (stays ks (contents h) (Table t) (goes_off s r (Table t) x refl))
-    ∙ ap (rows_at_end h (ended_in (Deliver s r) (Delivered x f)) t) (stays ks w (Row t k) (goes_off s r (Row t k) x refl))
+    ∙ fate_rows h s r x f v (after ks w) t k (λ q. stays ks (contents h) (Alive q) (goes_off (contents h) s r x (Alive q) refl)) (stays ks (contents h) (Owned r) (goes_off (contents h) s r x (Owned r) refl)) (stays ks (contents h) (Table t) (goes_off (contents h) s r x (Table t) refl))
+    ∙ ap (rows_at_end h (ended_in (Deliver s r) (Delivered x f)) t) (stays ks w (Row t k) (goes_off (contents h) s r x (Row t k) refl))
 told_rows h (Deliver s r) deed t k = refl
 
 pub rows_told : RowsAreTold

@@ -5,10 +5,11 @@ use Rattle.term_core.specs.Meaning.{Meaning}
 use Rattle.term_core.specs.declared.step.Step.{Step}
 use Rattle.term_core.specs.declared.step.Step.TheVariants.{Turn, Deliver}
 use Rattle.world_model.specs.Calls.{Call, New, call_of, TableCall, DeleteTable, GiveAway, SetOptions, OnTable, Spawn, Monitor, SpawnWay, Alone, Linked, Watched, Demonitor}
-use Rattle.world_model.specs.Cells.{Table, Contents, meet, TableName, Watch, Watchers, Alive}
-use Rattle.world_model.specs.Changes.{is_of_watch, after, HeirSet, changed, TableNameCleared, TableRemoved, RowsCleared, OwnedRemoved, AliveCleared, MachineHalted, SignalDelivered, WatchCleared, WatcherRemoved, CellTouched}
+use Rattle.world_model.specs.Cells.{Table, Contents, meet, TableName, Watch, Watchers, Guard, Alive}
+use Rattle.world_model.specs.Changes.{is_of_watch, after, HeirSet, changed, TableNameCleared, TableRemoved, RowsCleared, OwnedRemoved, AliveCleared, MachineHalted, SignalDelivered, WatchCleared, WatcherRemoved, GuardUnwatched, CellTouched}
 use Rattle.world_model.specs.Ends.{ends}
-use Rattle.world_model.specs.Events.{Deed, Served, Signal, Message, Exit, LinkExit, Down, Fate, Arrives, IsIgnored, IsDropped, Kills, Refused, Ended, EndedItself, Received, TimedOut, RanAway, Delivered}
+use Rattle.world_model.specs.Events.{Deed, Served, Signal, Message, Exit, LinkExit, Down, Guarded, Elapsed, Fate, Arrives, IsIgnored, IsDropped, Kills, Refused, Ended, EndedItself, Received, TimedOut, RanAway, Delivered}
+use Rattle.world_model.specs.Guards.{ends_by_reply}
 use Rattle.world_model.specs.TableAccess.{Found, find}
 use Rattle.world_model.specs.TableRules.{found_line}
 use Rattle.world_model.specs.Lines.{line}
@@ -17,18 +18,18 @@ use Rattle.world_model.specs.Names.{Pid, Ref, same_ref, Name, same_pid}
 use Rattle.world_model.specs.NewTables.{means_if, new_line, new_rule}
 use Rattle.world_model.specs.OwnershipLaws.{table_passed}
 use Rattle.world_model.specs.Ownership.{heirs_set}
-use Rattle.world_model.specs.ProcessLines.{next_ref, bound, gone_told, flushed, watch_ends, next_child}
-use Rattle.world_model.specs.Signals.{goes_with}
+use Rattle.world_model.specs.ProcessLines.{next_ref, bound, gone_told, flushed, watch_ends, next_child, watch_begins, alias_begins, alias_beside}
+use Rattle.world_model.specs.Signals.{goes_with, reply_ends}
 use Rattle.world_model.specs.Steps.{changes_of_fate, changes_by, runaway}
 use Rattle.world_model.specs.TableLines.{table_line}
 use Rattle.world_model.specs.Tables as tables
 use Rattle.world_model.specs.Tables.{Heir, with_heir, is_named, owned_by, TableOption, table_of}
 use Rattle.world_model.specs.declared.rule.Rule.{Rule}
+use Rattle.world_model.specs.declared.alias.AliasEnd.{AliasEnd}
 use Rattle.world_model.proofs.Commuting.{stays, either_way}
 use Rattle.world_model.proofs.EndSorts.{after_both, end_leaves}
-use Rattle.world_model.proofs.Outcomes.{touches}
 use Rattle.world_model.proofs.OwnerLaws.{end_passes}
-use Rattle.world_model.proofs.SortLaws.{untouched_by, table_among, call_leaves, no_watch}
+use Rattle.world_model.proofs.SortLaws.{goes_off, untouched_by, table_among, call_leaves, no_watch}
 use Rattle.world_model.proofs.Sorts.{table_sorts}
 
 -- ---- tables
@@ -99,12 +100,6 @@ left_none false heir x is = is
 pub end_none : (v w : Contents) (p : Pid) (reason : Meaning) (t : Ref) → w (Table t) ≡ None → after (ends v p reason) w (Table t) ≡ None
 end_none v w p reason t is = end_passes (changed (AliveCleared p) v) (changed (AliveCleared p) (changed (MachineHalted p reason) w)) p reason t ∙ left_none _ _ (w (Table t)) is
 
-goes_off : (s r : Pid) (t : Ref) (x : Signal) → touches (goes_with s r x) (Table t) ≡ false
-goes_off s r t (Message m) = refl
-goes_off s r t (Exit reason) = refl
-goes_off s r t (LinkExit reason) = refl
-goes_off s r t (Down ref reason) = refl
-
 fate_none : (v w : Contents) (r : Pid) (t : Ref) (f : Fate) → w (Table t) ≡ None → after (changes_of_fate v r f) w (Table t) ≡ None
 fate_none v w r t (Arrives m) is = is
 fate_none v w r t IsIgnored is = is
@@ -121,16 +116,16 @@ table_none v (Turn p) (Ended reason) t other is = end_none v _ p reason t is
 table_none v (Turn p) RanAway t other is = end_none v _ p runaway t is
 table_none v (Turn p) (Delivered x f) t other is = is
 table_none v (Deliver s r) (Delivered x f) t other is =
-    let ks = goes_with s r x in
+    let ks = goes_with v s r x in
     let w = changed (SignalDelivered s r) v in
-    after_both ks (changes_of_fate (after ks v) r f) w (Table t) ∙ fate_none (after ks v) (after ks w) r t f (stays ks w (Table t) (goes_off s r t x) ∙ is)
+    after_both ks (changes_of_fate (after ks v) r f) w (Table t) ∙ fate_none (after ks v) (after ks w) r t f (stays ks w (Table t) (goes_off v s r x (Table t) refl) ∙ is)
 table_none v (Deliver s r) deed t other is = is
 
 -- ---- watches
 
 abbrev pub watches_by : Contents → Pid → Call → Ref → Bool
 watches_by v p (Spawn way origin) ref = same_ref (next_ref v p) ref
-watches_by v p (Monitor is_process whom) ref = same_ref (next_ref v p) ref
+watches_by v p (Monitor is_process whom alias) ref = same_ref (next_ref v p) ref
 watches_by v p call ref = false
 
 abbrev pub watches_in : Contents → Step → Deed → Ref → Bool
@@ -151,7 +146,17 @@ flush_none false p o ref w = refl
 flush_none true p None ref w = refl
 flush_none true p (Some m) ref w = refl
 
-ends_by : (b : Bool) (q : Pid) (u ref : Ref) (w : Contents) → w (Watch ref) ≡ None → after (if b then WatchCleared u ∷ WatcherRemoved q u ∷ [] else CellTouched (Watch u) ∷ CellTouched (Watchers q) ∷ []) w (Watch ref) ≡ None
+begins_none : (p : Pid) (u : Ref) (o : Option AliasEnd) (ref : Ref) (w : Contents) → after (alias_begins p u o) w (Watch ref) ≡ w (Watch ref)
+begins_none p u None ref w = refl
+begins_none p u (Some end) ref w = refl
+
+-- a reply begins no watch
+reply_none : (b : Bool) (u ref : Ref) (o : Option Pid) (w : Contents) → w (Watch ref) ≡ None → after (reply_ends b u o) w (Watch ref) ≡ None
+reply_none true u ref None w is = is
+reply_none true u ref (Some q) w is = none_if (same_ref u ref) (w (Watch ref)) is
+reply_none false u ref o w is = is
+
+ends_by : (b : Bool) (q : Pid) (u ref : Ref) (w : Contents) → w (Watch ref) ≡ None → after (if b then WatchCleared u ∷ WatcherRemoved q u ∷ GuardUnwatched u ∷ [] else CellTouched (Watch u) ∷ CellTouched (Watchers q) ∷ []) w (Watch ref) ≡ None
 ends_by true q u ref w is = none_if (same_ref u ref) (w (Watch ref)) is
 ends_by false q u ref w is = either_way (same_ref u ref) (w (Watch ref)) ∙ is
 
@@ -162,9 +167,14 @@ ended_none p u ref (Some q) w is = ends_by (same_pid u.pid p) q u ref w is
 call_unwatched : (v w : Contents) (p : Pid) (call : Call) (ref : Ref) → watches_by v p call ref ≡ false → w (Watch ref) ≡ None → after (line v p call).changes w (Watch ref) ≡ None
 call_unwatched v w p (Spawn way None) ref other is = is
 call_unwatched v w p (Spawn way (Some origin)) ref other is = bound_none way p (next_child v p) (next_ref v p) ref _ other is
-call_unwatched v w p (Monitor is_process None) ref other is = is
-call_unwatched v w p (Monitor false (Some q)) ref other is = is
-call_unwatched v w p (Monitor true (Some q)) ref other is = told_none (v (Alive q)) p q (next_ref v p) ref _ ∙ some_if_not (same_ref (next_ref v p) ref) (Some q) (w (Watch ref)) other ∙ is
+call_unwatched v w p (Monitor is_process None alias) ref other is = is
+call_unwatched v w p (Monitor false (Some q) alias) ref other is = is
+call_unwatched v w p (Monitor true (Some q) None) ref other is = is
+call_unwatched v w p (Monitor true (Some q) (Some alias)) ref other is =
+    let u = next_ref v p in
+    let mid = after (watch_begins u q) w in
+    let begun = alias_beside (same_pid p q) alias in
+    after_both (alias_begins p u begun) (gone_told (v (Alive q)) p q u) mid (Watch ref) ∙ told_none (v (Alive q)) p q u ref (after (alias_begins p u begun) mid) ∙ begins_none p u begun ref mid ∙ some_if_not (same_ref u ref) (Some q) (w (Watch ref)) other ∙ is
 call_unwatched v w p (Demonitor None flushes) ref other is = is
 call_unwatched v w p (Demonitor (Some u) None) ref other is = is
 call_unwatched v w p (Demonitor (Some u) (Some flushes)) ref other is =
@@ -174,11 +184,13 @@ call_unwatched v w p (Demonitor (Some u) (Some flushes)) ref other is =
 call_unwatched v w p (OnTable argument call) ref other is = call_leaves v w p (OnTable argument call) (Watch ref) (no_watch call ref) ∙ is
 call_unwatched v w p call ref other is = call_leaves v w p call (Watch ref) refl ∙ is
 
-goes_unwatched : (s r : Pid) (ref : Ref) (x : Signal) (w : Contents) → w (Watch ref) ≡ None → after (goes_with s r x) w (Watch ref) ≡ None
-goes_unwatched s r ref (Message m) w is = is
-goes_unwatched s r ref (Exit reason) w is = is
-goes_unwatched s r ref (LinkExit reason) w is = is
-goes_unwatched s r ref (Down u reason) w is = none_if (same_ref u ref) (w (Watch ref)) is
+goes_unwatched : (v : Contents) (s r : Pid) (ref : Ref) (x : Signal) (w : Contents) → w (Watch ref) ≡ None → after (goes_with v s r x) w (Watch ref) ≡ None
+goes_unwatched v s r ref (Message m) w is = is
+goes_unwatched v s r ref (Exit reason) w is = is
+goes_unwatched v s r ref (LinkExit reason) w is = is
+goes_unwatched v s r ref (Down u reason) w is = none_if (same_ref u ref) (w (Watch ref)) is
+goes_unwatched v s r ref (Guarded u m) w is = reply_none (ends_by_reply r (v (Guard u))) u ref (v (Watch u)) w is
+goes_unwatched v s r ref (Elapsed u m) w is = is
 
 fate_unwatched : (v w : Contents) (r : Pid) (ref : Ref) (f : Fate) → w (Watch ref) ≡ None → after (changes_of_fate v r f) w (Watch ref) ≡ None
 fate_unwatched v w r ref (Arrives m) is = is
@@ -196,7 +208,7 @@ watch_none v (Turn p) (Ended reason) ref other is = end_leaves v _ p reason (Wat
 watch_none v (Turn p) RanAway ref other is = end_leaves v _ p runaway (Watch ref) refl ∙ is
 watch_none v (Turn p) (Delivered x f) ref other is = is
 watch_none v (Deliver s r) (Delivered x f) ref other is =
-    let ks = goes_with s r x in
+    let ks = goes_with v s r x in
     let w = changed (SignalDelivered s r) v in
-    after_both ks (changes_of_fate (after ks v) r f) w (Watch ref) ∙ fate_unwatched (after ks v) (after ks w) r ref f (goes_unwatched s r ref x w is)
+    after_both ks (changes_of_fate (after ks v) r f) w (Watch ref) ∙ fate_unwatched (after ks v) (after ks w) r ref f (goes_unwatched v s r ref x w is)
 watch_none v (Deliver s r) deed ref other is = is

@@ -5,17 +5,19 @@ use Rattle.term_core.specs.declared.step.Step.{Step}
 use Rattle.term_core.specs.declared.step.Step.TheVariants.{Turn, Deliver}
 use Rattle.core_semantics.specs.Asked as answered
 use Rattle.world_model.specs.Calls.{Call, Spawn, SpawnWay, Alone, Linked, Watched, Monitor, Demonitor, OnTable, TableCall, First, call_of}
-use Rattle.world_model.specs.Cells.{Contents, Alive, Watch, Watchers}
-use Rattle.world_model.specs.Changes.{MachineStarted, AliveSet, WatchCleared, WatcherRemoved, CellTouched, TurnTaken, SignalDelivered, after, changed, is_of_watch}
+use Rattle.world_model.specs.Cells.{Contents, Alive, Watch, Watchers, Guard}
+use Rattle.world_model.specs.Changes.{MachineStarted, AliveSet, WatchCleared, WatcherRemoved, GuardCleared, GuardUnwatched, CellTouched, TurnTaken, SignalDelivered, after, changed, is_of_watch}
 use Rattle.world_model.specs.Ends.{ends}
-use Rattle.world_model.specs.Events.{Deed, Served, Refused, EndedItself, Ended, Received, TimedOut, RanAway, Delivered, Signal, Message, Exit, LinkExit, Down, Fate, Arrives, IsIgnored, IsDropped, Kills}
+use Rattle.world_model.specs.Events.{Deed, Served, Refused, EndedItself, Ended, Received, TimedOut, RanAway, Delivered, Signal, Message, Exit, LinkExit, Down, Guarded, Elapsed, Fate, Arrives, IsIgnored, IsDropped, Kills}
+use Rattle.world_model.specs.Guards.{ends_by_reply}
 use Rattle.world_model.specs.Lines.{line}
 use Rattle.world_model.specs.Mailboxes.{mailbox_in, selected_of}
 use Rattle.world_model.specs.Names.{Pid, Ref, same_pid, same_ref}
-use Rattle.world_model.specs.ProcessLines.{bound, flushed, gone_told, next_child, next_ref, watch_begins, watch_ends}
-use Rattle.world_model.specs.Signals.{goes_with}
+use Rattle.world_model.specs.ProcessLines.{bound, flushed, gone_told, next_child, next_ref, watch_begins, watch_ends, alias_begins, alias_beside}
+use Rattle.world_model.specs.Signals.{goes_with, reply_ends}
 use Rattle.world_model.specs.Steps.{changes_of_fate, changes_by, runaway}
 use Rattle.world_model.specs.ProcessHistory.{is_it}
+use Rattle.world_model.specs.declared.alias.AliasEnd.{AliasEnd}
 use Rattle.world_model.proofs.Commuting.{either_way}
 use Rattle.world_model.proofs.EndSorts.{after_both, end_leaves}
 use Rattle.world_model.proofs.Listed.{AreListed, all_listed}
@@ -61,6 +63,22 @@ gone_watch : (b : Bool) (p q : Pid) (u : Ref) (w : Contents) (t : Ref) → after
 gone_watch true p q u w t = refl
 gone_watch false p q u w t = refl
 
+begins_watchers : (p : Pid) (u : Ref) (o : Option AliasEnd) (w : Contents) (x : Pid) → after (alias_begins p u o) w (Watchers x) ≡ w (Watchers x)
+begins_watchers p u None w x = refl
+begins_watchers p u (Some end) w x = refl
+
+begins_watch : (p : Pid) (u : Ref) (o : Option AliasEnd) (w : Contents) (t : Ref) → after (alias_begins p u o) w (Watch t) ≡ w (Watch t)
+begins_watch p u None w t = refl
+begins_watch p u (Some end) w t = refl
+
+-- a reply ends the watch of its alias
+reply_known : (b : Bool) (u : Ref) (o : Option Pid) (w : Contents) → w (Watch u) ≡ o → AreListed w → Known w → Known (after (reply_ends b u o) w)
+reply_known true u None w is sorted before_ = known_same w (after (GuardCleared u ∷ []) w) (λ x. refl) (λ t. refl) before_
+reply_known true u (Some q) w is sorted before_ =
+    let cleared = changed (GuardCleared u) w in
+    ends_known cleared u q (all_listed (GuardCleared u ∷ []) w sorted) (λ x now. sym (ap (λ o. is_it o x) is) ∙ now) (known_same w cleared (λ x. refl) (λ t. refl) before_)
+reply_known false u o w is sorted before_ = before_
+
 flush_watchers : (b : Bool) (p : Pid) (o : Option Meaning) (w : Contents) (x : Pid) → after (flushed b p o) w (Watchers x) ≡ w (Watchers x)
 flush_watchers false p o w x = refl
 flush_watchers true p None w x = refl
@@ -71,8 +89,8 @@ flush_watch false p o w t = refl
 flush_watch true p None w t = refl
 flush_watch true p (Some m) w t = refl
 
-ended_by : (b : Bool) (u : Ref) (q : Pid) (w : Contents) → AreListed w → IsOf w u q → Known w → Known (after (if b then WatchCleared u ∷ WatcherRemoved q u ∷ [] else CellTouched (Watch u) ∷ CellTouched (Watchers q) ∷ []) w)
-ended_by true u q w sorted of before_ = ends_known w u q sorted of before_
+ended_by : (b : Bool) (u : Ref) (q : Pid) (w : Contents) → AreListed w → IsOf w u q → Known w → Known (after (if b then WatchCleared u ∷ WatcherRemoved q u ∷ GuardUnwatched u ∷ [] else CellTouched (Watch u) ∷ CellTouched (Watchers q) ∷ []) w)
+ended_by true u q w sorted of before_ = known_same (after (WatchCleared u ∷ WatcherRemoved q u ∷ []) w) (after (WatchCleared u ∷ WatcherRemoved q u ∷ GuardUnwatched u ∷ []) w) (λ x. refl) (λ t. refl) (ends_known w u q sorted of before_)
 ended_by false u q w sorted of before_ = known_same w (after (CellTouched (Watch u) ∷ CellTouched (Watchers q) ∷ []) w) (λ x. either_way (same_pid q x) (w (Watchers x))) (λ t. either_way (same_ref u t) (w (Watch t))) before_
 
 watch_ended : (p : Pid) (u : Ref) (o : Option Pid) (w : Contents) → w (Watch u) ≡ o → AreListed w → Known w → Known (after (watch_ends p u o) w)
@@ -86,11 +104,18 @@ no_watchers call q = refl
 call_known : (v w : Contents) (p : Pid) (call : Call) → ((u : Ref) → w (Watch u) ≡ v (Watch u)) → w (Watch (next_ref v p)) ≡ None → AreListed w → Known w → Known (after (line v p call).changes w)
 call_known v w p (Spawn way None) same none sorted before_ = before_
 call_known v w p (Spawn way (Some origin)) same none sorted before_ = bound_known way p (next_child v p) (next_ref v p) (changed (AliveSet (next_child v p)) (changed (MachineStarted (next_child v p) origin) w)) none before_
-call_known v w p (Monitor is_process None) same none sorted before_ = before_
-call_known v w p (Monitor false (Some q)) same none sorted before_ = before_
-call_known v w p (Monitor true (Some q)) same none sorted before_ =
-    let mid = after (watch_begins (next_ref v p) q) w in
-    known_same mid (after (line v p (Monitor true (Some q))).changes w) (λ x. gone_watchers (v (Alive q)) p q (next_ref v p) mid x) (λ t. gone_watch (v (Alive q)) p q (next_ref v p) mid t) (begins_known w (next_ref v p) q none before_)
+call_known v w p (Monitor is_process None alias) same none sorted before_ = before_
+call_known v w p (Monitor false (Some q) alias) same none sorted before_ = before_
+call_known v w p (Monitor true (Some q) None) same none sorted before_ = before_
+call_known v w p (Monitor true (Some q) (Some alias)) same none sorted before_ =
+    let u = next_ref v p in
+    let mid = after (watch_begins u q) w in
+    let told = gone_told (v (Alive q)) p q u in
+    let begun = alias_beside (same_pid p q) alias in
+    known_same mid (after (line v p (Monitor true (Some q) (Some alias))).changes w)
+    (λ x. after_both (alias_begins p u begun) told mid (Watchers x) ∙ gone_watchers (v (Alive q)) p q u (after (alias_begins p u begun) mid) x ∙ begins_watchers p u begun mid x)
+    (λ t. after_both (alias_begins p u begun) told mid (Watch t) ∙ gone_watch (v (Alive q)) p q u (after (alias_begins p u begun) mid) t ∙ begins_watch p u begun mid t)
+    (begins_known w u q none before_)
 call_known v w p (Demonitor None flushes) same none sorted before_ = before_
 call_known v w p (Demonitor (Some u) None) same none sorted before_ = before_
 call_known v w p (Demonitor (Some u) (Some flushes)) same none sorted before_ =
@@ -119,11 +144,13 @@ abbrev pub ComesFrom : Contents → Pid → Signal → Type 0
 ComesFrom v s (Down ref reason) = IsOf v ref s
 ComesFrom v s x = Unit {0}
 
-goes_known : (s r : Pid) (x : Signal) (w : Contents) → AreListed w → ComesFrom w s x → Known w → Known (after (goes_with s r x) w)
-goes_known s r (Message m) w sorted from before_ = before_
-goes_known s r (Exit reason) w sorted from before_ = before_
-goes_known s r (LinkExit reason) w sorted from before_ = before_
-goes_known s r (Down ref reason) w sorted from before_ = ends_known w ref s sorted from before_
+goes_known : (v : Contents) (s r : Pid) (x : Signal) (w : Contents) → ((u : Ref) → w (Watch u) ≡ v (Watch u)) → AreListed w → ComesFrom w s x → Known w → Known (after (goes_with v s r x) w)
+goes_known v s r (Message m) w same sorted from before_ = before_
+goes_known v s r (Exit reason) w same sorted from before_ = before_
+goes_known v s r (LinkExit reason) w same sorted from before_ = before_
+goes_known v s r (Down ref reason) w same sorted from before_ = known_same (after (WatchCleared ref ∷ WatcherRemoved s ref ∷ []) w) (after (goes_with v s r (Down ref reason)) w) (λ x. refl) (λ t. refl) (ends_known w ref s sorted from before_)
+goes_known v s r (Guarded ref m) w same sorted from before_ = reply_known (ends_by_reply r (v (Guard ref))) ref (v (Watch ref)) w (same ref) sorted before_
+goes_known v s r (Elapsed ref m) w same sorted from before_ = known_same w (after (goes_with v s r (Elapsed ref m)) w) (λ x. refl) (λ t. refl) before_
 
 abbrev pub IsFrom : Contents → Step → Deed → Type 0
 IsFrom v (Deliver s r) (Delivered x f) = ComesFrom v s x
@@ -134,6 +161,8 @@ fetched_from s r t (Message m) v from = tt
 fetched_from s r t (Exit reason) v from = tt
 fetched_from s r t (LinkExit reason) v from = tt
 fetched_from s r t (Down ref reason) v from = from
+fetched_from s r t (Guarded ref m) v from = tt
+fetched_from s r t (Elapsed ref m) v from = tt
 
 pub event_known : (v : Contents) (step : Step) (deed : Deed) → ((p : Pid) → v (Watch (next_ref v p)) ≡ None) → AreListed v → IsFrom v step deed → Known v → Known (after (changes_by v step deed) v)
 event_known v (Turn p) (Served kind arguments answer) free sorted from before_ = call_known v (changed (TurnTaken p (answered.Value answer ∷ [])) v) p (call_of kind arguments) (λ u. refl) (free p) (all_listed (TurnTaken p (answered.Value answer ∷ []) ∷ []) v sorted) before_
@@ -145,9 +174,9 @@ event_known v (Turn p) (Ended reason) free sorted from before_ = end_known v (ch
 event_known v (Turn p) RanAway free sorted from before_ = end_known v (changed (TurnTaken p []) v) p runaway before_
 event_known v (Turn p) (Delivered x f) free sorted from before_ = before_
 event_known v (Deliver s r) (Delivered x f) free sorted from before_ =
-    let ks = goes_with s r x in
+    let ks = goes_with v s r x in
     let w = changed (SignalDelivered s r) v in
     known_same (after (changes_of_fate (after ks v) r f) (after ks w)) (after (changes_by v (Deliver s r) (Delivered x f)) v)
     (λ q. after_both ks (changes_of_fate (after ks v) r f) w (Watchers q)) (λ t. after_both ks (changes_of_fate (after ks v) r f) w (Watch t))
-    (fate_known (after ks v) (after ks w) r f (goes_known s r x w (all_listed (SignalDelivered s r ∷ []) v sorted) (fetched_from s r s x v from) before_))
+    (fate_known (after ks v) (after ks w) r f (goes_known v s r x w (λ u. refl) (all_listed (SignalDelivered s r ∷ []) v sorted) (fetched_from s r s x v from) before_))
 event_known v (Deliver s r) deed free sorted from before_ = before_

@@ -1,18 +1,20 @@
 -- What histories say of links, watches and names: each by the latest event about it.
-use Rattle.std.specs.Prelude.{◌&&◌, if◌then◌else◌, ◌∷◌, ◌≡◌, List, Some, Option, true, None}
+use Rattle.std.specs.Prelude.{◌&&◌, if◌then◌else◌, ◌∷◌, ◌≡◌, List, Some, Option, Bool, true, not, None, is_some, option_and_then}
 use Rattle.term_core.specs.Order.{order_of_lists}
 use Rattle.term_core.specs.declared.step.Step.{Step}
 use Rattle.term_core.specs.declared.step.Step.TheVariants.{Turn, Deliver}
-use Rattle.world_model.specs.Calls.{Link, Call, Spawn, Linked, Unlink, call_of, Watched, Monitor, Demonitor, Register, Unregister}
+use Rattle.world_model.specs.Calls.{Link, Call, Spawn, Linked, Unlink, call_of, Watched, Monitor, Demonitor, MakeAlias, Unalias, StartTimer, CancelTimer, Register, Unregister}
 use Rattle.world_model.specs.Cells.{NameOf}
 use Rattle.world_model.specs.Changes.{set_in_order, without_first}
-use Rattle.world_model.specs.Events.{History, Deed, Served, Delivered, LinkExit, Event, Down}
+use Rattle.world_model.specs.Events.{History, Deed, Served, Delivered, LinkExit, Event, Down, Guarded, Elapsed}
+use Rattle.world_model.specs.Guards as guards
+use Rattle.world_model.specs.Guards.{Alias, Timer, unwatched, is_alias_of, ends_by_reply, timer_in}
 use Rattle.world_model.specs.Names.{Pid, same_pid, Ref, same_ref, Name, same_name}
 use Rattle.world_model.specs.ProcessLines.{LinkWay, Stands, Pairs, PairsGone, Fails, link_way, next_child, next_ref}
 use Rattle.world_model.specs.Requests.{Program}
 use Rattle.world_model.specs.Run.{IsRun}
 use Rattle.world_model.specs.ProcessHistory.{ended_by, is_it}
-use Rattle.world_model.specs.World.{linked, alive, traps, contents, watched, holder}
+use Rattle.world_model.specs.World.{linked, alive, traps, contents, watched, guarded, holder}
 
 -- ---- links: a pair begins by `link/1` or `spawn_link/3`, and ends by `unlink/1` or when a signal of the link is delivered
 
@@ -56,17 +58,48 @@ LinkedIsTold = (h : History) (e : Event) (x : Pid) → linked (e ∷ h) x ≡ li
 
 abbrev pub watched_by_call : History → Pid → Call → Ref → Option Pid → Option Pid
 watched_by_call h p (Spawn Watched (Some origin)) ref there = if same_ref (next_ref (contents h) p) ref then Some (next_child (contents h) p) else there
-watched_by_call h p (Monitor true (Some q)) ref there = if same_ref (next_ref (contents h) p) ref then Some q else there
+watched_by_call h p (Monitor true (Some q) (Some alias)) ref there = if same_ref (next_ref (contents h) p) ref then Some q else there
 watched_by_call h p (Demonitor (Some other) (Some flushes)) ref there = if same_pid other.pid p && same_ref other ref then None else there
 watched_by_call h p call ref there = there
 
 abbrev pub watched_in : History → Step → Deed → Ref → Option Pid → Option Pid
 watched_in h (Turn p) (Served kind arguments answer) ref there = watched_by_call h p (call_of kind arguments) ref there
 watched_in h (Deliver s r) (Delivered (Down other reason) fate) ref there = if same_ref other ref then None else there
+watched_in h (Deliver s r) (Delivered (Guarded other message) fate) ref there = if ends_by_reply r (guarded h other) && same_ref other ref then None else there
 watched_in h step deed ref there = there
 
 abbrev pub WatchedIsTold : Type 0
 WatchedIsTold = (h : History) (e : Event) (ref : Ref) → watched (e ∷ h) ref ≡ watched_in h e.step e.deed ref (watched h ref)
+
+-- ---- guards: an alias begins by `alias` or with a watch of another, and ends by `unalias/1`, or as it was made with its watch or by a message through it; a timer begins by `start_timer/3` or `send_after/3`, and ends by `cancel_timer/1` or when its message is delivered
+
+abbrev pub set_if : Bool → guards.Guard → Option guards.Guard → Option guards.Guard
+set_if is_it guard there = if is_it then Some guard else there
+
+abbrev pub cleared_if : Bool → Option guards.Guard → Option guards.Guard
+cleared_if is_it there = if is_it then None else there
+
+abbrev pub unwatched_if : Bool → Option guards.Guard → Option guards.Guard
+unwatched_if is_it there = if is_it then option_and_then unwatched there else there
+
+abbrev pub guarded_by_call : History → Pid → Call → Ref → Option guards.Guard → Option guards.Guard
+guarded_by_call h p (Monitor true (Some q) (Some (Some end))) ref there = set_if (not (same_pid p q) && same_ref (next_ref (contents h) p) ref) (Alias p end) there
+guarded_by_call h p (MakeAlias (Some end)) ref there = set_if (same_ref (next_ref (contents h) p) ref) (Alias p end) there
+guarded_by_call h p (StartTimer is_named (Some time) (Some to) message) ref there = set_if (same_ref (next_ref (contents h) p) ref) (Timer to time) there
+guarded_by_call h p (Unalias (Some other)) ref there = cleared_if (is_alias_of p (guarded h other) && same_ref other ref) there
+guarded_by_call h p (CancelTimer (Some other)) ref there = cleared_if (is_some (timer_in (guarded h other)) && same_ref other ref) there
+guarded_by_call h p (Demonitor (Some other) (Some flushes)) ref there = unwatched_if (is_some (watched h other) && (same_pid other.pid p && same_ref other ref)) there
+guarded_by_call h p call ref there = there
+
+abbrev pub guarded_in : History → Step → Deed → Ref → Option guards.Guard → Option guards.Guard
+guarded_in h (Turn p) (Served kind arguments answer) ref there = guarded_by_call h p (call_of kind arguments) ref there
+guarded_in h (Deliver s r) (Delivered (Down other reason) fate) ref there = unwatched_if (same_ref other ref) there
+guarded_in h (Deliver s r) (Delivered (Guarded other message) fate) ref there = cleared_if (ends_by_reply r (guarded h other) && same_ref other ref) there
+guarded_in h (Deliver s r) (Delivered (Elapsed other message) fate) ref there = cleared_if (same_ref other ref) there
+guarded_in h step deed ref there = there
+
+abbrev pub GuardedIsTold : Type 0
+GuardedIsTold = (h : History) (e : Event) (ref : Ref) → guarded (e ∷ h) ref ≡ guarded_in h e.step e.deed ref (guarded h ref)
 
 -- ---- names: one has a holder by `register/2`, and none by `unregister/1` and by the end of its holder
 

@@ -1,5 +1,5 @@
 -- The calls as they are understood: which call, and what each argument is. An argument that is not of its kind is None.
-use Rattle.std.specs.Prelude.{None, ℕ, ℤ, Bool, true, false, List, [], ◌∷◌, Option, Some, option_map, option_and_then, if◌then◌else◌, codes}
+use Rattle.std.specs.Prelude.{None, ℕ, ℤ, Bool, true, false, List, [], ◌∷◌, Option, Some, option_map, option_and_then, pos, negsuc, if◌then◌else◌, codes}
 use Rattle.term_core.specs.Meaning.{Meaning}
 use Rattle.core_calls.specs.declared.call.CallKind.{CallKind}
 use Rattle.core_calls.specs.declared.call.CallKind.TheVariants as kinds
@@ -10,6 +10,8 @@ use Rattle.world_model.specs.Tables.{Heir, TableOption, options_of, heirs_of, fo
 use Rattle.world_model.specs.Terms.{atom_in, process_in, reference_in, integer_in, boolean_in, parts_in, items_in, each_in, is_atom, position_of, positive_in}
 use Rattle.world_model.specs.declared.table.Item.{Item}
 use Rattle.world_model.specs.declared.table.Item.TheVariants as items
+use Rattle.world_model.specs.declared.alias.AliasEnd.{AliasEnd}
+use Rattle.world_model.specs.declared.alias.AliasEnd.TheVariants.{ByUnalias, WithWatch, ByReply}
 
 -- what a spawn adds: nothing, a link, or a watch
 pub data SpawnWay : Type 0 where
@@ -17,10 +19,11 @@ pub data SpawnWay : Type 0 where
   Linked : SpawnWay
   Watched : SpawnWay
 
--- who a message is for: a process, the holder of a name, or nobody
+-- who a message is for: a process, the holder of a name, the process that a reference is an alias of, or nobody
 pub data Destination : Type 0 where
   ToProcess : (q : Pid) → Destination
   ToName : (name : Name) → Destination
+  ToReference : (ref : Ref) → Destination
   ToNobody : Destination
 
 -- by what a table is called: a name, a reference, or what is neither
@@ -65,8 +68,8 @@ pub data Call : Type 0 where
   SendExit : (to : Option Pid) (reason : Meaning) → Call
   Link : (to : Option Pid) → Call
   Unlink : (from : Option Pid) → Call
-  -- whether the first argument is `'process'`
-  Monitor : (is_process : Bool) (whom : Option Pid) → Call
+  -- whether the first argument is `'process'`, and how an alias ends that is made with the watch, if one is, where the options are such
+  Monitor : (is_process : Bool) (whom : Option Pid) (alias : Option (Option AliasEnd)) → Call
   -- whether the message goes too, if the options are such
   Demonitor : (ref : Option Ref) (flushes : Option Bool) → Call
   -- the value, if the flag is `'trap_exit'` and the value a boolean
@@ -76,6 +79,13 @@ pub data Call : Type 0 where
   WhereIs : (name : Option Name) → Call
   IsAlive : (whom : Option Pid) → Call
   MakeRef : Call
+  -- how it ends, if the options are such
+  MakeAlias : (end : Option AliasEnd) → Call
+  Unalias : (ref : Option Ref) → Call
+  -- whether its message names it
+  StartTimer : (is_named : Bool) (time : Option ℤ) (to : Option Pid) (message : Meaning) → Call
+  CancelTimer : (ref : Option Ref) → Call
+  ReadTimer : (ref : Option Ref) → Call
   New : (name : Option Name) (options : Option (List TableOption)) → Call
   OnTable : (argument : TableArgument) (call : TableCall) → Call
   -- a call with another number of arguments than it has: no module that is read makes one
@@ -87,13 +97,14 @@ abbrev pub origin_of : Option Name → Option Name → Option (List Meaning) →
 origin_of (Some module_name) (Some function_name) (Some arguments) = Some (Spawned module_name function_name arguments)
 origin_of m f arguments = None
 
-abbrev pub destination_by : Option Pid → Option Name → Destination
-destination_by (Some q) name = ToProcess q
-destination_by None (Some name) = ToName name
-destination_by None None = ToNobody
+abbrev pub destination_by : Option Pid → Option Name → Option Ref → Destination
+destination_by (Some q) name ref = ToProcess q
+destination_by None (Some name) ref = ToName name
+destination_by None None (Some ref) = ToReference ref
+destination_by None None None = ToNobody
 
 abbrev pub destination_of : Meaning → Destination
-destination_of m = destination_by (process_in m) (atom_in m)
+destination_of m = destination_by (process_in m) (atom_in m) (reference_in m)
 
 -- `[]`, or a list of `'flush'`
 abbrev pub flush_in : Meaning → Option Unit
@@ -108,6 +119,40 @@ flushes_of options = option_map has_items (each_in flush_in options)
 
 abbrev pub flag_of : Meaning → Meaning → Option Bool
 flag_of flag value = if is_atom (codes "trap_exit") flag then boolean_in value else None
+
+-- the last of several, or another where there is none
+abbrev pub last_or : {A : Type 0} → A → List A → A
+last_or other [] = other
+last_or other (x ∷ xs) = last_or x xs
+
+-- how an alias ends that is made alone: a list of `'explicit_unalias'` and `'reply'`
+abbrev pub end_alone : Meaning → Option AliasEnd
+end_alone m = if is_atom (codes "explicit_unalias") m then Some ByUnalias else (if is_atom (codes "reply") m then Some ByReply else None)
+
+abbrev pub end_of : Meaning → Option AliasEnd
+end_of options = option_map (last_or ByUnalias) (each_in end_alone options)
+
+-- and that is made with a watch: a list of `{'alias',How}`
+abbrev pub end_watched : Meaning → Option AliasEnd
+end_watched m = if is_atom (codes "explicit_unalias") m then Some ByUnalias else (if is_atom (codes "demonitor") m then Some WithWatch else (if is_atom (codes "reply_demonitor") m then Some ByReply else None))
+
+abbrev pub end_beside : Option (List Meaning) → Option AliasEnd
+end_beside (Some (name ∷ how ∷ [])) = if is_atom (codes "alias") name then end_watched how else None
+end_beside parts = None
+
+abbrev pub alias_in : Meaning → Option (Option AliasEnd)
+alias_in m = option_map Some (end_beside (parts_in m))
+
+abbrev pub alias_of : Meaning → Option (Option AliasEnd)
+alias_of options = option_map (last_or None) (each_in alias_in options)
+
+-- a time in milliseconds, from 0 on
+abbrev pub unless_negative : ℤ → Option ℤ
+unless_negative (pos n) = Some (pos n)
+unless_negative (negsuc n) = None
+
+abbrev pub time_of : Meaning → Option ℤ
+time_of m = option_and_then unless_negative (integer_in m)
 
 -- ---- arguments of tables
 
@@ -170,6 +215,10 @@ call_of_one kinds.Demonitor ref = Demonitor (reference_in ref) (Some false)
 call_of_one kinds.Unregister name = Unregister (atom_in name)
 call_of_one kinds.Whereis name = WhereIs (atom_in name)
 call_of_one kinds.IsProcessAlive whom = IsAlive (process_in whom)
+call_of_one kinds.AliasWith options = MakeAlias (end_of options)
+call_of_one kinds.Unalias ref = Unalias (reference_in ref)
+call_of_one kinds.CancelTimer ref = CancelTimer (reference_in ref)
+call_of_one kinds.ReadTimer ref = ReadTimer (reference_in ref)
 call_of_one kinds.First table = OnTable (argument_of table) First
 call_of_one kinds.Last table = OnTable (argument_of table) Last
 call_of_one kinds.TableToList table = OnTable (argument_of table) ToList
@@ -181,7 +230,7 @@ abbrev pub call_of_two : CallKind → Meaning → Meaning → Call
 call_of_two kinds.Bang to message = Send (destination_of to) message
 call_of_two kinds.Send to message = Send (destination_of to) message
 call_of_two kinds.Exit to reason = SendExit (process_in to) reason
-call_of_two kinds.Monitor type whom = Monitor (is_atom (codes "process") type) (process_in whom)
+call_of_two kinds.Monitor type whom = Monitor (is_atom (codes "process") type) (process_in whom) (Some None)
 call_of_two kinds.DemonitorWith ref options = Demonitor (reference_in ref) (flushes_of options)
 call_of_two kinds.ProcessFlag flag value = Flag (flag_of flag value)
 call_of_two kinds.Register name whom = Register (atom_in name) (process_in whom)
@@ -203,6 +252,9 @@ abbrev pub call_of_three : CallKind → Meaning → Meaning → Meaning → Call
 call_of_three kinds.Spawn m f arguments = Spawn Alone (origin_of (atom_in m) (atom_in f) (items_in arguments))
 call_of_three kinds.SpawnLink m f arguments = Spawn Linked (origin_of (atom_in m) (atom_in f) (items_in arguments))
 call_of_three kinds.SpawnMonitor m f arguments = Spawn Watched (origin_of (atom_in m) (atom_in f) (items_in arguments))
+call_of_three kinds.MonitorWith type whom options = Monitor (is_atom (codes "process") type) (process_in whom) (alias_of options)
+call_of_three kinds.StartTimer time to message = StartTimer true (time_of time) (process_in to) message
+call_of_three kinds.SendAfter time to message = StartTimer false (time_of time) (process_in to) message
 call_of_three kinds.LookupElement table key position = OnTable (argument_of table) (LookupElement key (positive_in position))
 call_of_three kinds.UpdateCounter table key increment = OnTable (argument_of table) (UpdateCounter key (increment_of increment))
 call_of_three kinds.UpdateElement table key change = OnTable (argument_of table) (UpdateElement key (change_of change))
@@ -211,6 +263,7 @@ call_of_three kind a b c = Misfit
 
 abbrev pub call_of_none : CallKind → Call
 call_of_none kinds.MakeRef = MakeRef
+call_of_none kinds.Alias = MakeAlias (Some ByUnalias)
 call_of_none kind = Misfit
 
 abbrev pub call_of : CallKind → List Meaning → Call

@@ -3,6 +3,7 @@ use Rattle.std.specs.Prelude.{◌≡◌, ℕ, Bool, false, ◌&&◌, List, Optio
 use Rattle.term_core.specs.Meaning.{Meaning}
 use Rattle.core_semantics.specs.Asked.{Answered}
 use Rattle.world_model.specs.Events.{Signal}
+use Rattle.world_model.specs.Guards as guards
 use Rattle.world_model.specs.Names.{Name, Pid, Ref, same_pid, same_ref, same_name}
 use Rattle.world_model.specs.Requests.{Origin}
 use Rattle.world_model.specs.Rows as rows
@@ -24,6 +25,8 @@ pub data Cell : Type 0 where
   Links : (p : Pid) → Cell
   Watchers : (p : Pid) → Cell
   Watch : (ref : Ref) → Cell
+  -- what lets messages in that are sent to a reference
+  Guard : (ref : Ref) → Cell
   -- who holds a name, and which name a process has
   Holder : (name : Name) → Cell
   NameOf : (p : Pid) → Cell
@@ -47,6 +50,7 @@ meet (Tail s r) (Tail t u) = same_pid s t && same_pid r u
 meet (Links p) (Links q) = same_pid p q
 meet (Watchers p) (Watchers q) = same_pid p q
 meet (Watch a) (Watch b) = same_ref a b
+meet (Guard a) (Guard b) = same_ref a b
 meet (Holder n) (Holder m) = same_name n m
 meet (NameOf p) (NameOf q) = same_pid p q
 meet (TableName n) (TableName m) = same_name n m
@@ -81,6 +85,7 @@ Content (Links p) = List Pid
 -- the watches of it, in the order of references; each names its watcher
 Content (Watchers p) = List Ref
 Content (Watch ref) = Option Pid
+Content (Guard ref) = Option guards.Guard
 Content (Holder name) = Option Pid
 Content (NameOf p) = Option Name
 Content (TableName name) = Option Ref

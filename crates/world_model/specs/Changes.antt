@@ -1,13 +1,15 @@
 -- What an event may change: each change is of one cell.
 use Rattle.std.specs.FinMap.{empty}
-use Rattle.std.specs.Prelude.{◌+◌, Bool, true, false, List, [], ◌∷◌, ◌++◌, Option, Some, None, option_map, if◌then◌else◌}
+use Rattle.std.specs.Prelude.{◌+◌, Bool, true, false, List, [], ◌∷◌, ◌++◌, Option, Some, None, option_map, option_and_then, if◌then◌else◌}
 use Rattle.std.specs.declared.cmp.Ordering.{Ordering}
 use Rattle.std.specs.declared.cmp.Ordering.TheVariants.{Less, Equal, Greater}
 use Rattle.term_core.specs.Meaning.{Meaning}
 use Rattle.term_core.specs.Order.{order_of_lists}
 use Rattle.core_semantics.specs.Asked.{Answered}
-use Rattle.world_model.specs.Cells.{Table, Rows, Row, Cell, Machine, Alive, Trap, Taken, Mailed, Front, Tail, Links, Watchers, Watch, Holder, NameOf, TableName, Owned, meet, Content, Contents}
+use Rattle.world_model.specs.Cells.{Table, Rows, Row, Cell, Machine, Alive, Trap, Taken, Mailed, Front, Tail, Links, Watchers, Watch, Guard, Holder, NameOf, TableName, Owned, meet, Content, Contents}
 use Rattle.world_model.specs.Events.{Signal}
+use Rattle.world_model.specs.Guards as guards
+use Rattle.world_model.specs.Guards.{unwatched}
 use Rattle.world_model.specs.Names.{Name, Pid, Ref, same_pid, same_ref, same_term, order_of_refs}
 use Rattle.world_model.specs.Requests.{Origin}
 use Rattle.world_model.specs.Rows.{Key, RowChange, rewritten, rows_rewritten}
@@ -37,6 +39,10 @@ pub data Change : Type 0 where
   WatchCleared : (ref : Ref) → Change
   WatcherAdded : (p : Pid) (ref : Ref) → Change
   WatcherRemoved : (p : Pid) (ref : Ref) → Change
+  -- a reference has a guard, or none, or what is left of it where its watch ends
+  GuardSet : (ref : Ref) (guard : guards.Guard) → Change
+  GuardCleared : (ref : Ref) → Change
+  GuardUnwatched : (ref : Ref) → Change
   -- a name has a holder, or none; a process has a name, or none
   HolderSet : (name : Name) (p : Pid) → Change
   HolderCleared : (name : Name) → Change
@@ -76,6 +82,9 @@ cell_of (WatchSet ref target) = Watch ref
 cell_of (WatchCleared ref) = Watch ref
 cell_of (WatcherAdded p ref) = Watchers p
 cell_of (WatcherRemoved p ref) = Watchers p
+cell_of (GuardSet ref guard) = Guard ref
+cell_of (GuardCleared ref) = Guard ref
+cell_of (GuardUnwatched ref) = Guard ref
 cell_of (HolderSet name p) = Holder name
 cell_of (HolderCleared name) = Holder name
 cell_of (NameSet p name) = NameOf p
@@ -138,6 +147,9 @@ renewed (WatchSet a target) (Watch b) before = Some target
 renewed (WatchCleared a) (Watch b) before = None
 renewed (WatcherAdded q ref) (Watchers p) before = set_in_order order_of_refs ref before
 renewed (WatcherRemoved q ref) (Watchers p) before = without_first (same_ref ref) before
+renewed (GuardSet a guard) (Guard b) before = Some guard
+renewed (GuardCleared a) (Guard b) before = None
+renewed (GuardUnwatched a) (Guard b) before = option_and_then unwatched before
 renewed (HolderSet n holder) (Holder m) before = Some holder
 renewed (HolderCleared n) (Holder m) before = None
 renewed (NameSet q name) (NameOf p) before = Some name

@@ -6,12 +6,14 @@ use Rattle.core_calls.specs.declared.call.CallKind.{CallKind}
 use Rattle.world_model.specs.Names.{Pid, Ref}
 use Rattle.world_model.specs.declared.rule.Rule.{Rule}
 
--- a message; an exit signal of `exit/2`; that a linked process ended; that a watched one did (Erlang reference manual, "Processes": "Sending Signals")
+-- a message; an exit signal of `exit/2`; that a linked process ended; that a watched one did; a message to a reference; that of a timer (Erlang reference manual, "Processes": "Sending Signals")
 pub data Signal : Type 0 where
   Message : (message : Meaning) → Signal
   Exit : (reason : Meaning) → Signal
   LinkExit : (reason : Meaning) → Signal
   Down : (ref : Ref) (reason : Meaning) → Signal
+  Guarded : (ref : Ref) (message : Meaning) → Signal
+  Elapsed : (ref : Ref) (message : Meaning) → Signal
 
 -- what becomes of a signal where it takes effect: a message in the mailbox, nothing, nothing since what it is about is gone, or the end of the process
 pub data Fate : Type 0 where

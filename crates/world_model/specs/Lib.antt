@@ -2,6 +2,7 @@ pub mod Names
 pub mod Terms
 pub mod Requests
 pub mod Events
+pub mod Guards
 pub mod Tables
 pub mod Rows
 pub mod Calls
@@ -52,3 +53,4 @@ pub mod OrderExamples
 pub mod LeftExamples
 pub mod RowExamples
 pub mod BondExamples
+pub mod GuardExamples

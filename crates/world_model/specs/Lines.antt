@@ -1,14 +1,15 @@
 -- The calls line by line: why each is refused, and where it is not its answer and its changes; and the cells that it reads (Erlang manual, module `erlang`; `new/2` and the calls of tables module `ets`).
 use Rattle.std.specs.Prelude.{◌∷◌, None, [], Some, false, true, codes}
-use Rattle.world_model.specs.Calls.{Link, New, Call, Spawn, Send, ToNobody, ToProcess, ToName, SendExit, Unlink, Monitor, Demonitor, Flag, Register, Unregister, WhereIs, IsAlive, MakeRef, OnTable, Misfit}
-use Rattle.world_model.specs.Cells.{Alive, Contents, Machine, Holder, Links, Trap, Watch, NameOf, Front, Tail, TableName}
-use Rattle.world_model.specs.Changes.{TrapSet, is_of_watch}
+use Rattle.world_model.specs.Calls.{Link, New, Call, Spawn, Send, ToNobody, ToProcess, ToName, ToReference, SendExit, Unlink, Monitor, Demonitor, Flag, Register, Unregister, WhereIs, IsAlive, MakeRef, MakeAlias, Unalias, StartTimer, CancelTimer, ReadTimer, OnTable, Misfit}
+use Rattle.world_model.specs.Cells.{Alive, Contents, Machine, Holder, Links, Trap, Watch, Guard, NameOf, Front, Tail, TableName}
+use Rattle.world_model.specs.Changes.{TrapSet, GuardSet, is_of_watch}
 use Rattle.world_model.specs.Events.{ByRule}
+use Rattle.world_model.specs.Guards.{Alias, aliased, is_alias_of, timer_in}
 use Rattle.world_model.specs.TableRules.{on_table_line}
 use Rattle.world_model.specs.Mailboxes.{mailbox_in, selected_of}
 use Rattle.world_model.specs.Names.{Pid, same_pid}
 use Rattle.world_model.specs.NewTables.{new_line, new_rule}
-use Rattle.world_model.specs.ProcessLines.{CallLine, badarg, spawn_line, serves, read_of_target, sent, serves_unless, unless_held, holder_read, sent_to_holder, exited, link_line, link_way, monitor_line, ref_of_turn, demonitor_reads, demonitor_line, register_line, unregister_line}
+use Rattle.world_model.specs.ProcessLines.{CallLine, badarg, spawn_line, serves, read_of_target, sent, serves_unless, unless_held, holder_read, sent_to_holder, exited, link_line, link_way, monitor_line, alias_beside, ref_of_turn, demonitor_reads, demonitor_line, register_line, unregister_line, send_line, unalias_line, timer_line, timer_reads, timer_ends, time_left, told_left}
 use Rattle.world_model.specs.Signals.{pair_goes}
 use Rattle.world_model.specs.Terms.{ok, truth, process_or, reference}
 use Rattle.world_model.specs.declared.rule.Rule.TheVariants.{BadName}
@@ -21,6 +22,7 @@ line v p (Spawn way (Some origin)) = spawn_line way origin p (v (Machine p))
 -- '!'/2, send/2
 line v p (Send ToNobody message) = badarg []
 line v p (Send (ToProcess q) message) = serves (read_of_target (same_pid p q) p q) message (sent (same_pid p q) v p q message)
+line v p (Send (ToReference ref) message) = send_line v p ref (aliased (v (Guard ref))) message
 line v p (Send (ToName name) message) = serves_unless (unless_held (v (Holder name))) (Holder name ∷ holder_read p (v (Holder name))) message (sent_to_holder v p (v (Holder name)) message)
 -- exit/2
 line v p (SendExit None reason) = badarg []
@@ -31,10 +33,11 @@ line v p (Link (Some q)) = link_line p q (link_way p q (v (Links p)) (v (Alive q
 -- unlink/1
 line v p (Unlink None) = badarg []
 line v p (Unlink (Some q)) = serves (Alive q ∷ []) ok (pair_goes p q)
--- monitor/2
-line v p (Monitor is_process None) = badarg []
-line v p (Monitor false (Some q)) = badarg (Alive q ∷ [])
-line v p (Monitor true (Some q)) = monitor_line p q (ref_of_turn p (v (Machine p))) (v (Alive q))
+-- monitor/2, monitor/3
+line v p (Monitor is_process None alias) = badarg []
+line v p (Monitor false (Some q) alias) = badarg (Alive q ∷ [])
+line v p (Monitor true (Some q) None) = badarg (Alive q ∷ [])
+line v p (Monitor true (Some q) (Some alias)) = monitor_line p q (ref_of_turn p (v (Machine p))) (v (Alive q)) (alias_beside (same_pid p q) alias)
 -- demonitor/1, demonitor/2
 line v p (Demonitor None flushes) = badarg []
 line v p (Demonitor (Some ref) None) = badarg (demonitor_reads ref (v (Watch ref)))
@@ -58,6 +61,22 @@ line v p (IsAlive None) = badarg []
 line v p (IsAlive (Some q)) = serves (Alive q ∷ Front p q ∷ Tail p q ∷ []) (truth (v (Alive q))) []
 -- make_ref/0
 line v p MakeRef = serves [] (reference (ref_of_turn p (v (Machine p)))) []
+-- alias/0, alias/1
+line v p (MakeAlias None) = badarg []
+line v p (MakeAlias (Some end)) = serves [] (reference (ref_of_turn p (v (Machine p)))) (GuardSet (ref_of_turn p (v (Machine p))) (Alias p end) ∷ [])
+-- unalias/1
+line v p (Unalias None) = badarg []
+line v p (Unalias (Some ref)) = unalias_line ref (is_alias_of p (v (Guard ref)))
+-- start_timer/3, send_after/3
+line v p (StartTimer is_named time None message) = badarg []
+line v p (StartTimer is_named None (Some q) message) = badarg (Alive q ∷ [])
+line v p (StartTimer is_named (Some time) (Some q) message) = timer_line p (v (Machine p)) is_named time q (v (Alive q)) message
+-- cancel_timer/1
+line v p (CancelTimer None) = badarg []
+line v p (CancelTimer (Some ref)) = serves (timer_reads ref (timer_in (v (Guard ref)))) (told_left (time_left v (timer_in (v (Guard ref))))) (timer_ends ref (timer_in (v (Guard ref))))
+-- read_timer/1
+line v p (ReadTimer None) = badarg []
+line v p (ReadTimer (Some ref)) = serves (timer_reads ref (timer_in (v (Guard ref)))) (told_left (time_left v (timer_in (v (Guard ref))))) []
 -- ets: new/2
 line v p (New None options) = serves_unless (Some (ByRule BadName None)) [] ok []
 line v p (New (Some name) options) = new_line p (ref_of_turn p (v (Machine p))) name options (new_rule options (v (TableName name)))

@@ -3,19 +3,20 @@ use Rattle.std.specs.Prelude.{◌≡◌, ◌∷◌, ◌++◌, ◌&&◌, if◌the
 use Rattle.term_core.specs.Meaning.{Meaning}
 use Rattle.term_core.specs.declared.step.Step.{Step}
 use Rattle.term_core.specs.declared.step.Step.TheVariants.{Turn, Deliver}
-use Rattle.world_model.specs.Calls.{Call, Send, ToProcess, ToName, SendExit, Link, Monitor, OnTable, GiveAway, call_of}
+use Rattle.world_model.specs.Calls.{Call, Send, ToProcess, ToName, ToReference, SendExit, Link, Monitor, StartTimer, OnTable, GiveAway, call_of}
 use Rattle.world_model.specs.Cells.{Contents, Alive, Owned, Table, Links, Watchers}
 use Rattle.world_model.specs.Changes.{after}
-use Rattle.world_model.specs.Events.{History, Event, Deed, Served, EndedItself, Ended, RanAway, Delivered, Kills, Signal, Message, Exit, LinkExit, Down}
+use Rattle.world_model.specs.Events.{History, Event, Deed, Served, EndedItself, Ended, RanAway, Delivered, Kills, Signal, Message, Exit, LinkExit, Down, Guarded, Elapsed}
+use Rattle.world_model.specs.Guards.{aliased}
 use Rattle.world_model.specs.TableAccess.{Found}
 use Rattle.world_model.specs.Mail.{puts}
 use Rattle.world_model.specs.Names.{Pid, Ref, same_pid}
-use Rattle.world_model.specs.ProcessLines.{LinkWay, PairsGone, link_way, next_ref, noproc}
+use Rattle.world_model.specs.ProcessLines.{LinkWay, PairsGone, link_way, next_child, next_ref, noproc, timer_message}
 use Rattle.world_model.specs.Signals.{goes_with, transfer_message}
 use Rattle.world_model.specs.Steps.{runaway}
 use Rattle.world_model.specs.Tables as tables
 use Rattle.world_model.specs.Tables.{Heir, handle_of}
-use Rattle.world_model.specs.World.{contents, alive, traps, linked, holder, found}
+use Rattle.world_model.specs.World.{contents, alive, traps, linked, holder, guarded, found}
 
 -- a signal of p for q, as a part of what s puts for r
 abbrev pub on_way : Pid → Pid → Signal → Pid → Pid → List Signal
@@ -35,6 +36,11 @@ abbrev pub put_for_holder : History → Pid → Option Pid → Signal → Pid �
 put_for_holder h p None x s r = []
 put_for_holder h p (Some to) x s r = put_for h p to x s r
 
+-- by an alias it is put for oneself too
+abbrev pub put_for_alias : History → Pid → Option Pid → Signal → Pid → Pid → List Signal
+put_for_alias h p None x s r = []
+put_for_alias h p (Some to) x s r = if_lives (alive h to) (on_way p to x s r)
+
 -- a process that is gone answers a new link, where the caller traps exits, and a new watch
 abbrev pub put_by_link : LinkWay → Pid → Pid → Pid → Pid → List Signal
 put_by_link PairsGone p q s r = on_way q p (LinkExit noproc) s r
@@ -51,9 +57,11 @@ put_by_gift (Some f) to gift s r = on_way f.table.owner to (Message (transfer_me
 abbrev pub put_by_call : History → Pid → Call → Pid → Pid → List Signal
 put_by_call h p (Send (ToProcess to) message) s r = put_for h p to (Message message) s r
 put_by_call h p (Send (ToName name) message) s r = put_for_holder h p (holder h name) (Message message) s r
+put_by_call h p (Send (ToReference ref) message) s r = put_for_alias h p (aliased (guarded h ref)) (Guarded ref message) s r
 put_by_call h p (SendExit (Some to) reason) s r = put_for h p to (Exit reason) s r
 put_by_call h p (Link (Some q)) s r = put_by_link (link_way p q (linked h p) (alive h q) (traps h p)) p q s r
-put_by_call h p (Monitor true (Some q)) s r = put_by_watch (alive h q) p q (next_ref (contents h) p) s r
+put_by_call h p (Monitor true (Some q) (Some alias)) s r = put_by_watch (alive h q) p q (next_ref (contents h) p) s r
+put_by_call h p (StartTimer is_named (Some time) (Some to) message) s r = if_lives (alive h to) (on_way (next_child (contents h) p) to (Elapsed (next_ref (contents h) p) (timer_message is_named (next_ref (contents h) p) message)) s r)
 put_by_call h p (OnTable argument (GiveAway (Some to) gift)) s r = put_by_gift (found h argument) to gift s r
 put_by_call h p call s r = []
 
@@ -96,7 +104,7 @@ put_in h (Turn p) (Served kind arguments answer) s r = put_by_call h p (call_of 
 put_in h (Turn p) (EndedItself kind arguments reason) s r = put_by_end (contents h) p reason s r
 put_in h (Turn p) (Ended reason) s r = put_by_end (contents h) p reason s r
 put_in h (Turn p) RanAway s r = put_by_end (contents h) p runaway s r
-put_in h (Deliver t u) (Delivered signal (Kills reason)) s r = put_by_end (after (goes_with t u signal) (contents h)) u reason s r
+put_in h (Deliver t u) (Delivered signal (Kills reason)) s r = put_by_end (after (goes_with (contents h) t u signal) (contents h)) u reason s r
 put_in h step deed s r = []
 
 abbrev pub PutsAreTold : Type 0

@@ -1,17 +1,19 @@
 -- What a line of the calls is, and the parts of the lines of processes, each of the values that it reads (Erlang manual, module `erlang`).
 use Rattle.std.specs.List.{list_any}
-use Rattle.std.specs.Prelude.{List, ◌++◌, if◌then◌else◌, ◌+◌, ◌&&◌, ◌∷◌, ◌||◌, Option, None, Some, [], ℕ, not, Bool, codes, true, false, is_some}
-use Rattle.term_core.specs.Meaning.{Meaning}
+use Rattle.std.specs.Prelude.{List, ◌++◌, if◌then◌else◌, ◌+◌, ◌&&◌, ◌∷◌, ◌||◌, Option, None, Some, [], ℕ, ℤ, option_map, not, Bool, codes, true, false, is_some}
+use Rattle.term_core.specs.Meaning.{Meaning, Int}
 use Rattle.world_model.specs.Calls.{SpawnWay, Alone, Linked, Watched}
-use Rattle.world_model.specs.Cells.{Cell, Watch, Course, Contents, Machine, Trap, Alive, Links, Watchers, Holder, NameOf}
-use Rattle.world_model.specs.Changes.{Change, PartnerAdded, WatchSet, WatcherAdded, MachineStarted, AliveSet, MessageAdded, CellTouched, SignalPut, WatchCleared, WatcherRemoved, HolderSet, NameSet, HolderCleared, NameCleared}
+use Rattle.world_model.specs.Cells.{Cell, Watch, Guard, Course, Contents, Machine, Trap, Alive, Links, Watchers, Holder, NameOf}
+use Rattle.world_model.specs.Changes.{Change, PartnerAdded, WatchSet, WatcherAdded, MachineStarted, AliveSet, MessageAdded, CellTouched, SignalPut, WatchCleared, WatcherRemoved, GuardSet, GuardCleared, GuardUnwatched, HolderSet, NameSet, HolderCleared, NameCleared}
 use Rattle.world_model.specs.Ends.{alive_if}
-use Rattle.world_model.specs.Events.{Refusal, Badarg, Message, Exit, NoProcess, LinkExit, Down}
+use Rattle.world_model.specs.Events.{Refusal, Badarg, Message, Exit, NoProcess, LinkExit, Down, Guarded, Elapsed}
+use Rattle.world_model.specs.Guards.{Alias, Timer}
 use Rattle.world_model.specs.Mailboxes.{picked, reads_to_pick}
 use Rattle.world_model.specs.Names.{Name, Ref, Pid, same_pid, same_name}
 use Rattle.world_model.specs.Requests.{Origin}
 use Rattle.world_model.specs.Signals.{put_if, exit_message}
-use Rattle.world_model.specs.Terms.{process, ok, tuple, reference, atom}
+use Rattle.world_model.specs.Terms.{process, ok, tuple, reference, atom, truth}
+use Rattle.world_model.specs.declared.alias.AliasEnd.{AliasEnd}
 
 pub record CallLine : Type 0 where
   pub refusal : Option Refusal
@@ -135,13 +137,21 @@ abbrev pub gone_told : Bool → Pid → Pid → Ref → List Change
 gone_told true p q ref = []
 gone_told false p q ref = SignalPut q p (Down ref noproc) ∷ []
 
-abbrev pub monitor_line : Pid → Pid → Ref → Bool → CallLine
-monitor_line p q ref lives = serves (Alive q ∷ []) (reference ref) (watch_begins ref q ++ gone_told lives p q ref)
+-- with the watch of another an alias may begin
+abbrev pub alias_beside : Bool → Option AliasEnd → Option AliasEnd
+alias_beside is_own alias = if is_own then None else alias
+
+abbrev pub alias_begins : Pid → Ref → Option AliasEnd → List Change
+alias_begins p ref None = []
+alias_begins p ref (Some end) = GuardSet ref (Alias p end) ∷ []
+
+abbrev pub monitor_line : Pid → Pid → Ref → Bool → Option AliasEnd → CallLine
+monitor_line p q ref lives alias = serves (Alive q ∷ []) (reference ref) (watch_begins ref q ++ (alias_begins p ref alias ++ gone_told lives p q ref))
 
 -- a watch ends if the caller made it
 abbrev pub watch_ends : Pid → Ref → Option Pid → List Change
 watch_ends p ref None = CellTouched (Watch ref) ∷ []
-watch_ends p ref (Some q) = if same_pid ref.pid p then WatchCleared ref ∷ WatcherRemoved q ref ∷ [] else CellTouched (Watch ref) ∷ CellTouched (Watchers q) ∷ []
+watch_ends p ref (Some q) = if same_pid ref.pid p then WatchCleared ref ∷ WatcherRemoved q ref ∷ GuardUnwatched ref ∷ [] else CellTouched (Watch ref) ∷ CellTouched (Watchers q) ∷ []
 
 -- a flush takes its message, if it is there
 abbrev pub flushed : Bool → Pid → Option Meaning → List Change
@@ -157,6 +167,42 @@ demonitor_reads ref target = Watch ref ∷ alive_if target
 
 abbrev pub demonitor_line : Pid → Ref → Bool → Option Pid → Option Meaning → CallLine
 demonitor_line p ref flushes target message = serves (demonitor_reads ref target ++ reads_to_flush flushes p message) ok (watch_ends p ref target ++ flushed flushes p message)
+
+-- ---- aliases
+
+-- what is no alias lets nothing in; a message to an alias is put, to one's own too, and is let in where it comes
+abbrev pub send_line : Contents → Pid → Ref → Option Pid → Meaning → CallLine
+send_line v p ref None message = serves (Guard ref ∷ []) message []
+send_line v p ref (Some q) message = serves (Guard ref ∷ Alive q ∷ []) message (put_if (v (Alive q)) p q (Guarded ref message))
+
+abbrev pub unalias_line : Ref → Bool → CallLine
+unalias_line ref stands = serves (Guard ref ∷ []) (truth stands) (if stands then GuardCleared ref ∷ [] else [])
+
+-- ---- timers
+
+-- the message of a timer (Erlang manual, `start_timer/4`), or that of `send_after/4` as it is
+abbrev pub timer_message : Bool → Ref → Meaning → Meaning
+timer_message is_named ref message = if is_named then tuple (atom (codes "timeout") ∷ reference ref ∷ message ∷ []) else message
+
+-- it is on its way at once, from a sender of its own
+abbrev pub timer_line : Pid → Course → Bool → ℤ → Pid → Bool → Meaning → CallLine
+timer_line p course is_named time to lives message =
+    serves (Alive to ∷ []) (reference (ref_of_turn p course)) (GuardSet (ref_of_turn p course) (Timer to time) ∷ put_if lives (child_of p course) to (Elapsed (ref_of_turn p course) (timer_message is_named (ref_of_turn p course) message)))
+
+-- a timer for a process that is gone has ended
+abbrev pub time_left : Contents → Option (Pid × ℤ) → Option ℤ
+time_left v None = None
+time_left v (Some timer) = if v (Alive timer.0) then Some timer.1 else None
+
+abbrev pub told_left : Option ℤ → Meaning
+told_left None = truth false
+told_left (Some time) = Int time
+
+abbrev pub timer_reads : Ref → Option (Pid × ℤ) → List Cell
+timer_reads ref timer = Guard ref ∷ alive_if (option_map (λ it. it.0) timer)
+
+abbrev pub timer_ends : Ref → Option (Pid × ℤ) → List Change
+timer_ends ref timer = if is_some timer then GuardCleared ref ∷ [] else []
 
 -- ---- names
 

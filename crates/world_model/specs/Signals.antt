@@ -2,9 +2,10 @@
 use Rattle.std.specs.List.{list_any}
 use Rattle.std.specs.Prelude.{Bool, not, ◌&&◌, List, [], ◌∷◌, Option, Some, None, is_some, if◌then◌else◌, codes, drop, false}
 use Rattle.term_core.specs.Meaning.{Meaning}
-use Rattle.world_model.specs.Cells.{Cell, Trap, Front, Tail, Links, Watch, Watchers, Contents}
-use Rattle.world_model.specs.Changes.{Change, SignalPut, PartnerRemoved, WatchCleared, WatcherRemoved}
-use Rattle.world_model.specs.Events.{Signal, Message, Exit, LinkExit, Down, Fate, Arrives, IsIgnored, IsDropped, Kills}
+use Rattle.world_model.specs.Cells.{Cell, Trap, Front, Tail, Links, Watch, Watchers, Guard, Contents}
+use Rattle.world_model.specs.Changes.{Change, SignalPut, PartnerRemoved, WatchCleared, WatcherRemoved, GuardCleared, GuardUnwatched}
+use Rattle.world_model.specs.Events.{Signal, Message, Exit, LinkExit, Down, Guarded, Elapsed, Fate, Arrives, IsIgnored, IsDropped, Kills}
+use Rattle.world_model.specs.Guards.{is_alias_of, ends_by_reply, timer_in}
 use Rattle.world_model.specs.Names.{Pid, Ref, same_pid}
 use Rattle.world_model.specs.Terms.{reference, atom, process, tuple, is_atom}
 
@@ -57,28 +58,50 @@ link_fate stands traps s reason = if stands then as_exit traps false s reason el
 abbrev pub down_fate : Option Pid → Ref → Pid → Meaning → Fate
 down_fate target ref s reason = if is_some target then Arrives (down_message ref s reason) else IsDropped
 
+-- a message that nothing lets in is dropped
+abbrev pub guarded_fate : Bool → Meaning → Fate
+guarded_fate stands message = if stands then Arrives message else IsDropped
+
 abbrev pub fate_of : Contents → Pid → Pid → Signal → Fate
 fate_of v s r (Message message) = Arrives message
 fate_of v s r (Exit reason) = exit_fate (v (Trap r)) false s reason
 fate_of v s r (LinkExit reason) = link_fate (list_any (same_pid s) (v (Links r))) (v (Trap r)) s reason
 fate_of v s r (Down ref reason) = down_fate (v (Watch ref)) ref s reason
+fate_of v s r (Guarded ref message) = guarded_fate (is_alias_of r (v (Guard ref))) message
+fate_of v s r (Elapsed ref message) = guarded_fate (is_some (timer_in (v (Guard ref)))) message
 
 -- what it reads for that: the signal of a link that is gone is dropped, whether its receiver traps exits or not
 abbrev pub trap_if : Bool → Pid → List Cell
 trap_if stands r = if stands then Trap r ∷ [] else []
+
+-- where a message comes through an alias that it ends, the watch goes too
+abbrev pub watch_if : Bool → Ref → List Cell
+watch_if replies ref = if replies then Watch ref ∷ [] else []
 
 abbrev pub reads_of_fate : Contents → Pid → Pid → Signal → List Cell
 reads_of_fate v s r (Message message) = []
 reads_of_fate v s r (Exit reason) = Trap r ∷ []
 reads_of_fate v s r (LinkExit reason) = Links r ∷ Links s ∷ trap_if (list_any (same_pid s) (v (Links r))) r
 reads_of_fate v s r (Down ref reason) = Watch ref ∷ Watchers s ∷ []
+reads_of_fate v s r (Guarded ref message) = Guard ref ∷ watch_if (ends_by_reply r (v (Guard ref))) ref
+reads_of_fate v s r (Elapsed ref message) = Guard ref ∷ []
 
--- what goes with a signal, whatever becomes of it: the link, or the watch
+-- what goes with a signal, whatever becomes of it: the link, the watch, the alias that a reply ends, or the timer
 abbrev pub pair_goes : Pid → Pid → List Change
 pair_goes p q = PartnerRemoved p q ∷ PartnerRemoved q p ∷ []
 
-abbrev pub goes_with : Pid → Pid → Signal → List Change
-goes_with s r (Message message) = []
-goes_with s r (Exit reason) = []
-goes_with s r (LinkExit reason) = pair_goes s r
-goes_with s r (Down ref reason) = WatchCleared ref ∷ WatcherRemoved s ref ∷ []
+-- a watch goes from the process that it is for
+abbrev pub watch_goes : Ref → Option Pid → List Change
+watch_goes ref None = []
+watch_goes ref (Some q) = WatchCleared ref ∷ WatcherRemoved q ref ∷ []
+
+abbrev pub reply_ends : Bool → Ref → Option Pid → List Change
+reply_ends replies ref target = if replies then GuardCleared ref ∷ watch_goes ref target else []
+
+abbrev pub goes_with : Contents → Pid → Pid → Signal → List Change
+goes_with v s r (Message message) = []
+goes_with v s r (Exit reason) = []
+goes_with v s r (LinkExit reason) = pair_goes s r
+goes_with v s r (Down ref reason) = WatchCleared ref ∷ WatcherRemoved s ref ∷ GuardUnwatched ref ∷ []
+goes_with v s r (Guarded ref message) = reply_ends (ends_by_reply r (v (Guard ref))) ref (v (Watch ref))
+goes_with v s r (Elapsed ref message) = GuardCleared ref ∷ []

@@ -119,7 +119,7 @@ changes_of_fate v r (Kills reason) = ends v r reason
 
 -- it leaves the channel, with it goes what it is about, and then its fate
 abbrev pub changes_of_delivery : Contents → Pid → Pid → Deed → List Change
-changes_of_delivery v s r (Delivered signal fate) = SignalDelivered s r ∷ (goes_with s r signal ++ changes_of_fate (after (goes_with s r signal) v) r fate)
+changes_of_delivery v s r (Delivered signal fate) = SignalDelivered s r ∷ (goes_with v s r signal ++ changes_of_fate (after (goes_with v s r signal) v) r fate)
 changes_of_delivery v s r deed = []
 
 abbrev pub reads_if_killed : Contents → Pid → Fate → List Cell
@@ -131,7 +131,7 @@ reads_if_killed v r (Kills reason) = reads_of_end v r
 -- where no signal waits, all that were put are read
 abbrev pub reads_of_signal : Contents → Pid → Pid → Option Signal → List Cell
 reads_of_signal v s r None = Tail s r ∷ []
-reads_of_signal v s r (Some signal) = reads_of_fate v s r signal ++ reads_if_killed (after (goes_with s r signal) v) r (fate_of v s r signal)
+reads_of_signal v s r (Some signal) = reads_of_fate v s r signal ++ reads_if_killed (after (goes_with v s r signal) v) r (fate_of v s r signal)
 
 -- ---- steps
 

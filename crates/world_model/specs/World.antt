@@ -6,9 +6,10 @@ use Rattle.term_core.specs.declared.step.Step.{Step}
 use Rattle.core_semantics.specs.Ask.{is_first}
 use Rattle.core_semantics.specs.Asked.{Answered}
 use Rattle.world_model.specs.Calls.{Call, TableArgument, TableCall}
-use Rattle.world_model.specs.Cells.{Table, Row, Rows, Contents, Machine, Alive, Trap, Taken, Mailed, Front, Tail, Links, Watch, Watchers, Holder, NameOf, TableName, Owned}
+use Rattle.world_model.specs.Cells.{Table, Row, Rows, Contents, Machine, Alive, Trap, Taken, Mailed, Front, Tail, Links, Watch, Watchers, Guard, Holder, NameOf, TableName, Owned}
 use Rattle.world_model.specs.Changes.{after}
 use Rattle.world_model.specs.Events.{Deed, History, Signal, Refusal}
+use Rattle.world_model.specs.Guards as guards
 use Rattle.world_model.specs.TableAccess.{Found, find}
 use Rattle.world_model.specs.TableRules.{table_rule}
 use Rattle.world_model.specs.Lines.{line}
@@ -36,6 +37,7 @@ beginning (Tail s r) = []
 beginning (Links p) = []
 beginning (Watchers p) = []
 beginning (Watch ref) = None
+beginning (Guard ref) = None
 beginning (Holder name) = None
 beginning (NameOf p) = None
 beginning (TableName name) = None
@@ -89,6 +91,10 @@ watched h ref = contents h (Watch ref)
 
 abbrev pub watches_of : History → Pid → List Ref
 watches_of h p = contents h (Watchers p)
+
+-- what lets messages in that are sent to a reference
+abbrev pub guarded : History → Ref → Option guards.Guard
+guarded h ref = contents h (Guard ref)
 
 -- who holds a name, and the name of a process
 abbrev pub holder : History → Name → Option Pid

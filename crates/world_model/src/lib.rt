@@ -2,6 +2,7 @@
 // definitions and later code share.
 #![tactic(auto)]
 
+pub mod alias;
 pub mod laws;
 pub mod rule;
 pub mod table;

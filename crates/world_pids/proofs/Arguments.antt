@@ -6,7 +6,7 @@ use Rattle.core_calls.specs.declared.call.CallKind.{CallKind}
 use Rattle.core_calls.specs.declared.call.CallKind.TheVariants as kinds
 use Rattle.term_core.specs.Meaning.{Meaning, Tuple, Nil, Cons, parts_of}
 use Rattle.term_core.specs.Meaning as terms
-use Rattle.world_model.specs.Calls.{Call, Spawn, Send, SendExit, Link, Monitor, Register, New, OnTable, TableCall, Insert, InsertNew, DeleteKey, DeleteObject, Take, UpdateCounter, UpdateElement, GiveAway, SetOptions, origin_of, objects_by, objects_of, change_of_parts, change_of, call_of, call_of_one, call_of_two, call_of_three, call_of_none}
+use Rattle.world_model.specs.Calls.{Call, Spawn, Send, SendExit, Link, Monitor, Register, StartTimer, New, OnTable, TableCall, Insert, InsertNew, DeleteKey, DeleteObject, Take, UpdateCounter, UpdateElement, GiveAway, SetOptions, origin_of, objects_by, objects_of, change_of_parts, change_of, call_of, call_of_one, call_of_two, call_of_three, call_of_none}
 use Rattle.world_model.specs.Names.{Pid, Name}
 use Rattle.world_model.specs.Rows.{Object}
 use Rattle.world_model.specs.Tables.{Heir, TableOption, AtPosition, WithHeir, Tunes, found_beside, tuning_words, heir_if, heir_of_parts, heir_option, pair_option, other_option, heir_or, option_of, heirs_or, plain_options}
@@ -38,8 +38,9 @@ module _ (n : ℕ) where
   CallTold (Send to message) = IsTold n message
   CallTold (SendExit to reason) = IsTold n reason
   CallTold (Link to) = IfThere (IsNumbered n) to
-  CallTold (Monitor is_process whom) = IfThere (IsNumbered n) whom
+  CallTold (Monitor is_process whom alias) = IfThere (IsNumbered n) whom
   CallTold (Register name whom) = IfThere (IsNumbered n) whom
+  CallTold (StartTimer is_named time to message) = IsTold n message
   CallTold (New name options) = IfThere (λ (os : List TableOption). AllByRecursion OptionTold os) options
   CallTold (OnTable argument call) = TableCallTold call
   CallTold call = Unit {0}
@@ -180,6 +181,9 @@ module _ (n : ℕ) where
   three_told kinds.Spawn a b c h k = spawn_told a b c k
   three_told kinds.SpawnLink a b c h k = spawn_told a b c k
   three_told kinds.SpawnMonitor a b c h k = spawn_told a b c k
+  three_told kinds.MonitorWith a b c h k = process_told b h
+  three_told kinds.StartTimer a b c h k = k
+  three_told kinds.SendAfter a b c h k = k
   three_told kinds.UpdateCounter a b c h k = h
   three_told kinds.UpdateElement a b c h k = (h, change_told c k)
   three_told kinds.GiveAway a b c h k = (process_told b h, k)

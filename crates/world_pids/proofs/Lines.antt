@@ -1,25 +1,26 @@
 -- What calls answer and change has no other pids than what the world contains and what they are given.
-use Rattle.std.proofs.Common.{ℕ, ◌≤◌, ◌+◌, Bool, true, false, not, List, [], ◌∷◌, map, reverse, if◌then◌else◌, Option, Some, None, arith}
+use Rattle.std.proofs.Common.{ℕ, ℤ, ◌≤◌, ◌+◌, Bool, true, false, not, List, [], ◌∷◌, map, reverse, if◌then◌else◌, Option, Some, None, arith}
 use Rattle.std.specs.FinMap.{keys}
 use Rattle.std.specs.List.{AllByRecursion, filter, cons_option}
 use Rattle.std.specs.Ordering.{is_lt, is_gt}
 use Rattle.term_core.proofs.Pieces.{all-append}
 use Rattle.term_core.specs.Meaning.{Meaning}
 use Rattle.term_core.specs.Order.{order_of_terms}
-use Rattle.world_model.specs.Calls.{Call, Spawn, SpawnWay, Alone, Linked, Watched, Send, ToNobody, ToProcess, ToName, SendExit, Link, Unlink, Monitor, Demonitor, Flag, Register, Unregister, WhereIs, IsAlive, MakeRef, New, OnTable, Misfit, TableArgument, ByName, ByReference, ByNothing, TableCall, Lookup, Member, LookupElement, First, Last, Next, Prev, ToList, Insert, InsertNew, DeleteTable, DeleteKey, DeleteObject, DeleteAll, Take, UpdateCounter, UpdateElement, GiveAway, SetOptions, Info}
-use Rattle.world_model.specs.Cells.{Contents, Machine, Alive, Trap, Links, Holder, Watch, TableName, Table, Row, Rows as RowsOf}
-use Rattle.world_model.specs.Changes.{Change, HeirSet, is_of_watch}
+use Rattle.world_model.specs.Calls.{Call, Spawn, SpawnWay, Alone, Linked, Watched, Send, ToNobody, ToProcess, ToName, ToReference, SendExit, Link, Unlink, Monitor, Demonitor, Flag, Register, Unregister, WhereIs, IsAlive, MakeRef, MakeAlias, Unalias, StartTimer, CancelTimer, ReadTimer, New, OnTable, Misfit, TableArgument, ByName, ByReference, ByNothing, TableCall, Lookup, Member, LookupElement, First, Last, Next, Prev, ToList, Insert, InsertNew, DeleteTable, DeleteKey, DeleteObject, DeleteAll, Take, UpdateCounter, UpdateElement, GiveAway, SetOptions, Info}
+use Rattle.world_model.specs.Cells.{Contents, Machine, Alive, Trap, Links, Holder, Watch, Guard, TableName, Table, Row, Rows as RowsOf}
+use Rattle.world_model.specs.Changes.{Change, GuardCleared, HeirSet, is_of_watch}
 use Rattle.world_model.specs.Ends.{heir_pid, name_freed}
-use Rattle.world_model.specs.Events.{Signal, Message, Exit}
+use Rattle.world_model.specs.Events.{Signal, Message, Exit, Guarded, Elapsed}
+use Rattle.world_model.specs.Guards.{aliased, is_alias_of, ends_by_reply, timer_in}
 use Rattle.world_model.specs.Lines.{line}
 use Rattle.world_model.specs.Mailboxes.{picked, mailbox_in, selected_of}
 use Rattle.world_model.specs.Names.{Name, Pid, Ref, same_pid}
 use Rattle.world_model.specs.NewTables.{new_line, new_rule, means_if}
 use Rattle.world_model.specs.Objects.{given, stored_at, stores, removed_at, removes, value_or_ok, element_answer, alters, one_present, keys_asked}
 use Rattle.world_model.specs.Ownership.{gives_to, heirs_set}
-use Rattle.world_model.specs.ProcessLines.{next_child, next_ref, bound, child_told, sent, sent_to_holder, exited, LinkWay, Stands, Pairs, PairsGone, Fails, link_changes, link_way, gone_told, watch_ends, flushed, unregister_line}
+use Rattle.world_model.specs.ProcessLines.{next_child, next_ref, bound, child_told, sent, sent_to_holder, exited, LinkWay, Stands, Pairs, PairsGone, Fails, link_changes, link_way, gone_told, alias_begins, alias_beside, watch_ends, flushed, send_line, unalias_line, timer_message, time_left, told_left, timer_ends, unregister_line}
 use Rattle.world_model.specs.Rows.{Key, Object, part_at, parts_at}
-use Rattle.world_model.specs.Signals.{put_if, first_of}
+use Rattle.world_model.specs.Signals.{put_if, watch_goes, reply_ends, first_of}
 use Rattle.world_model.specs.TableAccess.{Found, as_found, meant, unless_named, find}
 use Rattle.world_model.specs.TableLines.{table_line}
 use Rattle.world_model.specs.TableRules.{found_line}
@@ -27,6 +28,7 @@ use Rattle.world_model.specs.Tables as tables
 use Rattle.world_model.specs.Tables.{Heir, TableOption, OfKind, Protects, Named, AtPosition, WithHeir, Tunes, handle_of, is_bag, is_ordered, heir_in, last_asked, is_named, table_of}
 use Rattle.world_model.specs.Terms.{atom, truth, reference, process_or, list_of}
 use Rattle.world_model.specs.Walks.{key_or_end, last_of, key_after, item_value}
+use Rattle.world_model.specs.declared.alias.AliasEnd.{AliasEnd}
 use Rattle.world_model.specs.declared.rule.Rule.{Rule}
 use Rattle.world_model.specs.declared.table.Item.{Item}
 use Rattle.world_model.specs.declared.table.Item.TheVariants as items
@@ -59,6 +61,17 @@ module _ (n : ℕ) where
 
   pub freed_told : (table : tables.Table) → ChangesTold n (name_freed table)
   freed_told table = chosen (ChangesTold n) table.is_named _ [] (tt, tt) tt
+
+  -- ---- replies through aliases
+
+  -- what a reply ends brings nothing
+  gone_with : (ref : Ref) (o : Option Pid) → ChangesTold n (watch_goes ref o)
+  gone_with ref None = tt
+  gone_with ref (Some q) = (tt, (tt, tt))
+
+  pub reply_told : (b : Bool) (ref : Ref) (o : Option Pid) → ChangesTold n (reply_ends b ref o)
+  reply_told true ref o = (tt, gone_with ref o)
+  reply_told false ref o = tt
 
   -- ---- objects
 
@@ -235,14 +248,18 @@ module _ (n : ℕ) where
     gone_is_told true p q ref h = tt
     gone_is_told false p q ref h = ((h, tt), tt)
 
-    -- ---- watches that end
+    -- ---- watches and aliases that begin and end
 
     ends_told : (b : Bool) (ks ls : List Change) → ChangesTold n ks → ChangesTold n ls → ChangesTold n (if b then ks else ls)
     ends_told b ks ls h k = chosen (ChangesTold n) b ks ls h k
 
+    alias_told : (p : Pid) (ref : Ref) (o : Option AliasEnd) → ChangesTold n (alias_begins p ref o)
+    alias_told p ref None = tt
+    alias_told p ref (Some end) = (tt, tt)
+
     watch_told : (p : Pid) (ref : Ref) (o : Option Pid) → ChangesTold n (watch_ends p ref o)
     watch_told p ref None = (tt, tt)
-    watch_told p ref (Some q) = ends_told (same_pid ref.pid p) _ _ (tt, (tt, tt)) (tt, (tt, tt))
+    watch_told p ref (Some q) = ends_told (same_pid ref.pid p) _ _ (tt, (tt, (tt, tt))) (tt, (tt, tt))
 
     picked_told : (p : Pid) (o : Option Meaning) → ChangesTold n (picked p o)
     picked_told p None = tt
@@ -251,6 +268,29 @@ module _ (n : ℕ) where
     flushed_told : (b : Bool) (p : Pid) (o : Option Meaning) → ChangesTold n (flushed b p o)
     flushed_told true p o = picked_told p o
     flushed_told false p o = tt
+
+    -- ---- messages to references
+
+    to_alias : (p : Pid) (ref : Ref) (o : Option Pid) (m : Meaning) → IsNumbered n p → IsTold n m → LineTold (send_line v p ref o m).answer (send_line v p ref o m).changes
+    to_alias p ref None m h k = (k, tt)
+    to_alias p ref (Some to) m h k = (k, put_told (v (Alive to)) p to (Guarded ref m) h k)
+
+    unalias_told : (ref : Ref) (b : Bool) → LineTold (unalias_line ref b).answer (unalias_line ref b).changes
+    unalias_told ref b = (truth_told b, ends_told b (GuardCleared ref ∷ []) [] (tt, tt) tt)
+
+    -- ---- timers
+
+    timer_told : (b : Bool) (ref : Ref) (m : Meaning) → IsTold n m → IsTold n (timer_message b ref m)
+    timer_told true ref m h = (tt, (tt, (h, tt)))
+    timer_told false ref m h = h
+
+    left_told : (o : Option ℤ) → IsTold n (told_left o)
+    left_told None = tt
+    left_told (Some time) = tt
+
+    timer_gone : (ref : Ref) (o : Option (Pid × ℤ)) → ChangesTold n (timer_ends ref o)
+    timer_gone ref None = tt
+    timer_gone ref (Some timer) = (tt, tt)
 
     -- ---- what begins
 
@@ -298,6 +338,7 @@ module _ (n : ℕ) where
         (child_is_told way (next_child v p) (next_ref v p) child, (h, (child, bound_told way p (next_child v p) (next_ref v p))))
     line_told p (Send ToNobody m) mine most h = (tt, tt)
     line_told p (Send (ToProcess q) m) mine most h = (h, sent_told (same_pid p q) p q m mine h)
+    line_told p (Send (ToReference ref) m) mine most h = to_alias p ref (aliased (v (Guard ref))) m mine h
     line_told p (Send (ToName name) m) mine most h = (h, to_holder p (v (Holder name)) m mine h)
     line_told p (SendExit None reason) mine most h = (tt, tt)
     line_told p (SendExit (Some q) reason) mine most h = (tt, exited_told (same_pid p q) p q reason mine h)
@@ -305,10 +346,13 @@ module _ (n : ℕ) where
     line_told p (Link (Some q)) mine most h = (tt, link_told p q (link_way p q (v (Links p)) (v (Alive q)) (v (Trap p))) h)
     line_told p (Unlink None) mine most h = (tt, tt)
     line_told p (Unlink (Some q)) mine most h = (tt, (tt, (tt, tt)))
-    line_told p (Monitor true None) mine most h = (tt, tt)
-    line_told p (Monitor false None) mine most h = (tt, tt)
-    line_told p (Monitor false (Some q)) mine most h = (tt, tt)
-    line_told p (Monitor true (Some q)) mine most h = (tt, (tt, (tt, gone_is_told (v (Alive q)) p q (next_ref v p) h)))
+    line_told p (Monitor true None alias) mine most h = (tt, tt)
+    line_told p (Monitor false None alias) mine most h = (tt, tt)
+    line_told p (Monitor false (Some q) alias) mine most h = (tt, tt)
+    line_told p (Monitor true (Some q) None) mine most h = (tt, tt)
+    line_told p (Monitor true (Some q) (Some alias)) mine most h =
+        let begun = alias_beside (same_pid p q) alias in
+        (tt, (tt, (tt, both_told n (alias_begins p (next_ref v p) begun) _ (alias_told p (next_ref v p) begun) (gone_is_told (v (Alive q)) p q (next_ref v p) h))))
     line_told p (Demonitor None flushes) mine most h = (tt, tt)
     line_told p (Demonitor (Some ref) None) mine most h = (tt, tt)
     line_told p (Demonitor (Some ref) (Some flushes)) mine most h =
@@ -326,6 +370,22 @@ module _ (n : ℕ) where
     line_told p (IsAlive None) mine most h = (tt, tt)
     line_told p (IsAlive (Some q)) mine most h = (truth_told (v (Alive q)), tt)
     line_told p MakeRef mine most h = (tt, tt)
+    line_told p (MakeAlias None) mine most h = (tt, tt)
+    line_told p (MakeAlias (Some end)) mine most h = (tt, (tt, tt))
+    line_told p (Unalias None) mine most h = (tt, tt)
+    line_told p (Unalias (Some ref)) mine most h = unalias_told ref (is_alias_of p (v (Guard ref)))
+    line_told p (StartTimer is_named None None m) mine most h = (tt, tt)
+    line_told p (StartTimer is_named (Some time) None m) mine most h = (tt, tt)
+    line_told p (StartTimer is_named None (Some q) m) mine most h = (tt, tt)
+    line_told p (StartTimer is_named (Some time) (Some q) m) mine most h =
+        let message = timer_told is_named (next_ref v p) m h in
+        (tt, (tt, put_told (v (Alive q)) (next_child v p) q (Elapsed (next_ref v p) (timer_message is_named (next_ref v p) m)) (child_numbered p mine most) message))
+    line_told p (CancelTimer None) mine most h = (tt, tt)
+    line_told p (CancelTimer (Some ref)) mine most h =
+        let timer = timer_in (v (Guard ref)) in
+        (left_told (time_left v timer), timer_gone ref timer)
+    line_told p (ReadTimer None) mine most h = (tt, tt)
+    line_told p (ReadTimer (Some ref)) mine most h = (left_told (time_left v (timer_in (v (Guard ref)))), tt)
     line_told p (New None options) mine most h = (tt, tt)
     line_told p (New (Some name) options) mine most h = new_told p (next_ref v p) name options (new_rule options (v (TableName name))) mine h
     line_told p (OnTable argument call) mine most h = found_told p call (find v argument) (find_told argument) h

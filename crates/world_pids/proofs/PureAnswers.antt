@@ -1,5 +1,5 @@
 -- What a process answers by itself has no other pids than its arguments, and its own.
-use Rattle.std.proofs.Common.{ℕ, ℤ, Bool, true, false, ◌&&◌, List, [], ◌∷◌, ◌++◌, map, reverse, length, if◌then◌else◌}
+use Rattle.std.proofs.Common.{ℕ, ℤ, Bool, true, false, ◌&&◌, List, [], ◌∷◌, map, reverse, length, if◌then◌else◌}
 use Rattle.std.specs.List.{slice_get, slice_set}
 use Rattle.std.specs.Int.{w64, int_bit_and, int_bit_or, int_bit_xor, int_bit_not}
 use Rattle.std.specs.Ordering.{int_eq}
@@ -15,7 +15,7 @@ use Rattle.term_core.specs.Kinds.{tuple_in}
 use Rattle.core_pure_calls.specs.Answers.{Answer, Value, truth, error, whole, wrong_argument, integer_in}
 use Rattle.core_pure_calls.specs.Arithmetic.{wrong_number, with_integers, with_integer, quotient_of, remainder_of}
 use Rattle.core_pure_calls.specs.Calls.{answer_of, answer_to_none, answer_to_one, answer_to_two, answer_to_three, kept_by}
-use Rattle.core_pure_calls.specs.Dictionary.{Dictionary, above, all_of, below, keys_of, keys_with, pair_of, value_of}
+use Rattle.core_pure_calls.specs.Dictionary.{Dictionary, above, below, keys_with, pair_of, value_of}
 use Rattle.core_pure_calls.specs.Comparing.{boolean_in, with_boolean, with_booleans, are_equal, is_greater, is_less}
 use Rattle.core_pure_calls.specs.Kinds.{is_atom, record_asked}
 use Rattle.core_pure_calls.specs.Lists.{heads_of, is_proper, without_each, without_first, one_equals, head_of, tail_of, list_of}

@@ -8,15 +8,16 @@ use Rattle.term_core.specs.declared.step.Step.TheVariants.{Turn, Deliver}
 use Rattle.core_calls.specs.declared.call.CallKind.{CallKind}
 use Rattle.core_semantics.specs.Asked.{Answered}
 use Rattle.world_model.specs.Calls.{Call, SendExit, call_of}
-use Rattle.world_model.specs.Cells.{Contents, Machine, Alive, Trap, Links, Watch, Watchers, NameOf, Owned, Table, Tail, Front, Mailed, Taken}
+use Rattle.world_model.specs.Cells.{Contents, Machine, Alive, Trap, Links, Watch, Watchers, Guard, NameOf, Owned, Table, Tail, Front, Mailed, Taken}
 use Rattle.world_model.specs.Changes.{AliveCleared, after, changed, without_first}
 use Rattle.world_model.specs.Ends.{living_heir, passed, table_passes, tables_pass, partners_told, watchers_told, name_left, left_by, ends}
-use Rattle.world_model.specs.Events.{Signal, Message, Exit, LinkExit, Down, Fate, Arrives, IsIgnored, IsDropped, Kills, Refusal, Deed}
+use Rattle.world_model.specs.Events.{Signal, Message, Exit, LinkExit, Down, Guarded, Elapsed, Fate, Arrives, IsIgnored, IsDropped, Kills, Refusal, Deed}
+use Rattle.world_model.specs.Guards.{is_alias_of, ends_by_reply, timer_in}
 use Rattle.world_model.specs.Lines.{line}
 use Rattle.world_model.specs.Mailboxes.{left_of, mailbox_in, selected_of}
 use Rattle.world_model.specs.Names.{Name, Pid, Ref, same_pid, same_term}
 use Rattle.world_model.specs.Requests.{Origin, Request, Calls, Receives, Ends, RunsAway, Program}
-use Rattle.world_model.specs.Signals.{put_if, is_normal, exit_message, down_message, as_exit, exit_fate, link_fate, down_fate, fate_of, goes_with, first_of, waiting_in}
+use Rattle.world_model.specs.Signals.{put_if, is_normal, exit_message, down_message, as_exit, exit_fate, link_fate, down_fate, guarded_fate, fate_of, goes_with, first_of, waiting_in}
 use Rattle.world_model.specs.Steps.{killing, ends_itself, must_wait, judged, ended_or, deed_of_call, received, deed_asked, asked, runaway, changes_of_turn, deed_delivered, changes_of_fate, next_deed, changes_by}
 use Rattle.world_model.specs.Tables as tables
 use Rattle.world_model.specs.Tables.{Heir, handle_of}
@@ -24,7 +25,7 @@ use Rattle.world_model.specs.Terms.{is_atom, atom}
 use Rattle.world_pids.specs.Numbers.{IsNumbered}
 use Rattle.world_pids.proofs.Arguments.{CallTold, call_told}
 use Rattle.world_pids.proofs.Kept.{OriginTold, SignalTold, SentTold, HeirTold, TableTold, CellsTold, ChangesTold, changed_told, after_told, both_told}
-use Rattle.world_pids.proofs.Lines.{handle_told, freed_told, line_told}
+use Rattle.world_pids.proofs.Lines.{handle_told, freed_told, reply_told, line_told}
 use Rattle.world_pids.proofs.Told.{IfThere, chosen, all_dropped, IsTold, EachTold, AllTold}
 
 module _ (n : ℕ) where
@@ -106,19 +107,26 @@ module _ (n : ℕ) where
   down_told : (o : Option Pid) (ref : Ref) (s : Pid) (reason : Meaning) → IsNumbered n s → IsTold n reason → FateTold (down_fate o ref s reason)
   down_told o ref s reason h k = chosen FateTold (is_some o) (Arrives (down_message ref s reason)) IsDropped (tt, (tt, (tt, (h, (k, tt))))) tt
 
+  guarded_told : (b : Bool) (m : Meaning) → IsTold n m → FateTold (guarded_fate b m)
+  guarded_told b m h = chosen FateTold b (Arrives m) IsDropped h tt
+
   fate_told : (v : Contents) (s r : Pid) (x : Signal) → SentTold n s x → FateTold (fate_of v s r x)
   fate_told v s r (Message m) h = h.1
   fate_told v s r (Exit reason) h = exit_told (v (Trap r)) false s reason h.0 h.1
   fate_told v s r (LinkExit reason) h = link_told (list_any (same_pid s) (v (Links r))) (v (Trap r)) s reason h.0 h.1
   fate_told v s r (Down ref reason) h = down_told (v (Watch ref)) ref s reason h.0 h.1
+  fate_told v s r (Guarded ref m) h = guarded_told (is_alias_of r (v (Guard ref))) m h.1
+  fate_told v s r (Elapsed ref m) h = guarded_told (is_some (timer_in (v (Guard ref)))) m h.1
 
   -- ---- deliveries
 
-  goes_told : (s r : Pid) (x : Signal) → ChangesTold n (goes_with s r x)
-  goes_told s r (Message m) = tt
-  goes_told s r (Exit reason) = tt
-  goes_told s r (LinkExit reason) = (tt, (tt, tt))
-  goes_told s r (Down ref reason) = (tt, (tt, tt))
+  goes_told : (v : Contents) (s r : Pid) (x : Signal) → ChangesTold n (goes_with v s r x)
+  goes_told v s r (Message m) = tt
+  goes_told v s r (Exit reason) = tt
+  goes_told v s r (LinkExit reason) = (tt, (tt, tt))
+  goes_told v s r (Down ref reason) = (tt, (tt, (tt, tt)))
+  goes_told v s r (Guarded ref m) = reply_told n (ends_by_reply r (v (Guard ref))) ref (v (Watch ref))
+  goes_told v s r (Elapsed ref m) = (tt, tt)
 
   by_fate : (v : Contents) (r : Pid) (f : Fate) → IsNumbered n r → CellsTold n v → FateTold f → ChangesTold n (changes_of_fate v r f)
   by_fate v r (Arrives m) mine cells h = (h, tt)
@@ -133,7 +141,7 @@ module _ (n : ℕ) where
     delivered_told : (s r : Pid) (o : Option Signal) → IsNumbered n r → IfThere (SentTold n s) o → DoesTold (Deliver s r) (deed_delivered v s r o)
     delivered_told s r None mine h = tt
     delivered_told s r (Some x) mine h =
-        (tt, both_told n (goes_with s r x) _ (goes_told s r x) (by_fate (after (goes_with s r x) v) r (fate_of v s r x) mine (after_told n (goes_with s r x) v (goes_told s r x) cells) (fate_told v s r x h)))
+        (tt, both_told n (goes_with v s r x) _ (goes_told v s r x) (by_fate (after (goes_with v s r x) v) r (fate_of v s r x) mine (after_told n (goes_with v s r x) v (goes_told v s r x) cells) (fate_told v s r x h)))
 
     first_sent : {A : Type 0} (P : A → Type 0) (xs : List A) → AllByRecursion P xs → IfThere P (first_of xs)
     first_sent P [] h = tt

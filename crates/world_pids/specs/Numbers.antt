@@ -24,7 +24,7 @@ IsOfNumbered n (Deliver s r) = IsNumbered n s × IsNumbered n r
 abbrev pub LivingAreNumbered : Type 0
 LivingAreNumbered = (a : Program) (h : History) (p : Pid) → IsRun a h → alive h p ≡ true → IsNumbered (length h) p
 
--- of a module, so has each process of a step that is enabled: also one that is gone, which answers a link or a watch, is one that lived
+-- of a module, so has each process of a step that is enabled: also one that is gone, which answers a link or a watch, is one that lived; and the sender that a timer is has the number of the turn that started it
 abbrev pub StepsAreNumbered : Type 0
 StepsAreNumbered = (m : ModuleTree) (h : History) (step : Step) → IsRun (program_of m) h → is_enabled (program_of m) h step ≡ true → IsOfNumbered (length h) step
 

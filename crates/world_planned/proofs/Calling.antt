@@ -1,5 +1,5 @@
 -- What calls of processes result in, by the values that they read.
-use Rattle.std.proofs.Common.{◌≡◌, ◌∙◌, ◌⊎◌, inl, inr, Bool, true, false, List, [], ◌∷◌, ◌++◌, Option, Some, None, is_some, if◌then◌else◌, refl, sym, ap, true≢false}
+use Rattle.std.proofs.Common.{◌≡◌, ◌∙◌, ◌⊎◌, inl, inr, ℤ, Bool, true, false, List, [], ◌∷◌, ◌++◌, Option, Some, None, is_some, if◌then◌else◌, refl, sym, ap, true≢false}
 use Rattle.std.specs.Prelude.{◌&&◌, Result, Ok, Err, IfOk, not, is_none}
 use Rattle.term_core.specs.Meaning.{Meaning}
 use Rattle.term_core.specs.Term.{meaning_of}
@@ -7,19 +7,23 @@ use Rattle.term_core.specs.declared.term.Term.{Term}
 use Rattle.proc_links.specs.Links.{way_of}
 use Rattle.proc_links.specs.declared.links.Linking.{Linking}
 use Rattle.proc_links.specs.declared.links.Linking.TheVariants.{Stands, Pairs, PairsGone, Fails}
-use Rattle.world_model.specs.Calls.{Call, Demonitor, Link, Monitor, Register, Send, SendExit, Spawn, SpawnWay, ToName, Unregister}
+use Rattle.world_model.specs.Calls.{Call, CancelTimer, Demonitor, Link, MakeAlias, Monitor, ReadTimer, Register, Send, SendExit, Spawn, SpawnWay, StartTimer, ToName, ToReference, Unalias, Unregister}
 use Rattle.world_model.specs.Cells as cells
 use Rattle.world_model.specs.Cells.{Cell, Contents}
-use Rattle.world_model.specs.Changes.{Change, NameCleared, NameSet, MachineStarted, AliveCleared, HolderSet, AliveSet, HolderCleared, changed, is_of_watch}
+use Rattle.world_model.specs.Changes.{Change, NameCleared, NameSet, MachineStarted, AliveCleared, GuardCleared, GuardSet, HolderSet, AliveSet, HolderCleared, changed, is_of_watch}
 use Rattle.world_model.specs.Ends.{left_by, reads_of_end}
 use Rattle.world_model.specs.Events as events
+use Rattle.world_model.specs.Guards as guards
+use Rattle.world_model.specs.Guards.{Alias, Timer, aliased, is_alias_of, timer_in}
 use Rattle.world_model.specs.Lines.{line}
 use Rattle.world_model.specs.Mailboxes.{mailbox_in, selected_of}
 use Rattle.world_model.specs.Names.{Name, Pid, Ref, same_pid}
-use Rattle.world_model.specs.ProcessLines.{bound, child_told, demonitor_reads, flushed, gone_told, holder_read, is_undefined, link_changes, link_refusal, link_way, next_child, next_ref, read_of_target, reads_to_flush, register_refusal, sent, sent_to_holder, unless_held, unregister_line, watch_begins, watch_ends}
+use Rattle.world_model.specs.ProcessLines.{alias_begins, alias_beside, bound, child_told, demonitor_reads, flushed, gone_told, holder_read, is_undefined, link_changes, link_refusal, link_way, next_child, next_ref, read_of_target, reads_to_flush, register_refusal, send_line, sent, sent_to_holder, time_left, timer_ends, timer_message, timer_reads, told_left, unless_held, unregister_line, watch_begins, watch_ends}
 use Rattle.world_model.specs.Requests.{Origin}
+use Rattle.world_model.specs.Signals.{put_if}
 use Rattle.world_model.specs.Steps.{ends_itself, own_end, reads_if_ended, reads_of_call}
-use Rattle.world_model.specs.Terms.{ok, reference}
+use Rattle.world_model.specs.Terms.{ok, reference, truth}
+use Rattle.world_model.specs.declared.alias.AliasEnd.{AliasEnd}
 use Rattle.world_planned.specs.inside.Planned.{Adds}
 use Rattle.world_planned.specs.Replies.{refusal_in}
 use Rattle.world_planned.specs.inside.PlannedCalls.{IsPlanned}
@@ -112,12 +116,13 @@ link_serves v p q linking answer f g is way answered adds =
 
 -- ---- watches
 
-pub watch_serves : (v : Contents) (p q : Pid) (ref : Ref) (lives : Bool) (answer : Term) (f g : Planned) → ref ≡ next_ref v p → lives ≡ v (cells.Alive q) → meaning_of answer ≡ reference ref
-    → Adds (cells.Alive q ∷ []) (watch_begins ref q ++ gone_told lives p q ref) f g → IsPlanned v p (Monitor true (Some q)) (Served answer) f g
-watch_serves v p q ref lives answer f g is so answered adds =
-    let l = line v p (Monitor true (Some q)) in
-    serves v p (Monitor true (Some q)) answer f g refl refl (answered ∙ ap reference is)
-    (adds_as l.reads l.reads (watch_begins ref q ++ gone_told lives p q ref) l.changes f g refl (λ i. watch_begins (is i) q ++ gone_told (so i) p q (is i)) adds)
+pub watch_serves : (v : Contents) (p q : Pid) (ref : Ref) (lives : Bool) (alias : Option AliasEnd) (answer : Term) (f g : Planned) → ref ≡ next_ref v p → lives ≡ v (cells.Alive q) → meaning_of answer ≡ reference ref
+    → Adds (cells.Alive q ∷ []) (watch_begins ref q ++ (alias_begins p ref (alias_beside (same_pid p q) alias) ++ gone_told lives p q ref)) f g → IsPlanned v p (Monitor true (Some q) (Some alias)) (Served answer) f g
+watch_serves v p q ref lives alias answer f g is so answered adds =
+    let l = line v p (Monitor true (Some q) (Some alias)) in
+    let begun = alias_beside (same_pid p q) alias in
+    serves v p (Monitor true (Some q) (Some alias)) answer f g refl refl (answered ∙ ap reference is)
+    (adds_as l.reads l.reads (watch_begins ref q ++ (alias_begins p ref begun ++ gone_told lives p q ref)) l.changes f g refl (λ i. watch_begins (is i) q ++ (alias_begins p (is i) begun ++ gone_told (so i) p q (is i))) adds)
 
 pub unwatch_serves : (v : Contents) (p : Pid) (ref : Ref) (flushes : Bool) (o : Option Pid) (answer : Term) (f g h k : Planned) → o ≡ v (cells.Watch ref) → meaning_of answer ≡ ok
     → Adds (demonitor_reads ref o) [] f g → Adds [] (watch_ends p ref o) g h
@@ -136,6 +141,59 @@ pub unwatch_refuses : (v : Contents) (p : Pid) (ref : Ref) (o : Option Pid) (f g
 unwatch_refuses v p ref o f g is adds =
     let l = line v p (Demonitor (Some ref) None) in
     refuses v p (Demonitor (Some ref) None) BadArgument f g refl refl (adds_as (demonitor_reads ref o) l.reads [] [] f g (ap (demonitor_reads ref) is) refl adds)
+
+-- ---- aliases
+
+-- a message to a reference that is no alias
+pub bare_serves : (v : Contents) (p : Pid) (ref : Ref) (message : Meaning) (answer : Term) (f g : Planned) → None ≡ aliased (v (cells.Guard ref)) → meaning_of answer ≡ message
+    → Adds (cells.Guard ref ∷ []) [] f g → IsPlanned v p (Send (ToReference ref) message) (Served answer) f g
+bare_serves v p ref message answer f g none answered adds =
+    let call = Send (ToReference ref) message in
+    serves v p call answer f g refl (ap (λ o. (send_line v p ref o message).refusal) (sym none)) (answered ∙ ap (λ o. (send_line v p ref o message).answer) none)
+    (adds_as (cells.Guard ref ∷ []) (line v p call).reads [] (line v p call).changes f g (ap (λ o. (send_line v p ref o message).reads) none) (ap (λ o. (send_line v p ref o message).changes) none) adds)
+
+-- and to one that is
+pub aliased_serves : (v : Contents) (p q : Pid) (ref : Ref) (message : Meaning) (answer : Term) (f g : Planned) → Some q ≡ aliased (v (cells.Guard ref)) → meaning_of answer ≡ message
+    → Adds (cells.Guard ref ∷ cells.Alive q ∷ []) (put_if (v (cells.Alive q)) p q (events.Guarded ref message)) f g → IsPlanned v p (Send (ToReference ref) message) (Served answer) f g
+aliased_serves v p q ref message answer f g is answered adds =
+    let call = Send (ToReference ref) message in
+    serves v p call answer f g refl (ap (λ o. (send_line v p ref o message).refusal) (sym is)) (answered ∙ ap (λ o. (send_line v p ref o message).answer) is)
+    (adds_as (cells.Guard ref ∷ cells.Alive q ∷ []) (line v p call).reads (put_if (v (cells.Alive q)) p q (events.Guarded ref message)) (line v p call).changes f g (ap (λ o. (send_line v p ref o message).reads) is) (ap (λ o. (send_line v p ref o message).changes) is) adds)
+
+pub alias_serves : (v : Contents) (p : Pid) (ref : Ref) (end : AliasEnd) (answer : Term) (f g : Planned) → ref ≡ next_ref v p → meaning_of answer ≡ reference ref
+    → Adds [] (GuardSet ref (Alias p end) ∷ []) f g → IsPlanned v p (MakeAlias (Some end)) (Served answer) f g
+alias_serves v p ref end answer f g is answered adds =
+    let l = line v p (MakeAlias (Some end)) in
+    serves v p (MakeAlias (Some end)) answer f g refl refl (answered ∙ ap reference is) (adds_as [] [] (GuardSet ref (Alias p end) ∷ []) l.changes f g refl (ap (λ r. GuardSet r (Alias p end) ∷ []) is) adds)
+
+pub unalias_serves : (v : Contents) (p : Pid) (ref : Ref) (stands : Bool) (answer : Term) (f g : Planned) → stands ≡ is_alias_of p (v (cells.Guard ref)) → meaning_of answer ≡ truth stands
+    → Adds (cells.Guard ref ∷ []) (if stands then GuardCleared ref ∷ [] else []) f g → IsPlanned v p (Unalias (Some ref)) (Served answer) f g
+unalias_serves v p ref stands answer f g is answered adds =
+    let l = line v p (Unalias (Some ref)) in
+    serves v p (Unalias (Some ref)) answer f g refl refl (answered ∙ ap truth is) (adds_as (cells.Guard ref ∷ []) l.reads (if stands then GuardCleared ref ∷ [] else []) l.changes f g refl (ap (λ (b : Bool). if b then GuardCleared ref ∷ [] else []) is) adds)
+
+-- ---- timers
+
+pub timer_serves : (v : Contents) (p child : Pid) (ref : Ref) (is_named : Bool) (time : ℤ) (q : Pid) (lives : Bool) (message : Meaning) (answer : Term) (f g : Planned) → child ≡ next_child v p → ref ≡ next_ref v p → lives ≡ v (cells.Alive q) → meaning_of answer ≡ reference ref
+    → Adds (cells.Alive q ∷ []) (GuardSet ref (Timer q time) ∷ put_if lives child q (events.Elapsed ref (timer_message is_named ref message))) f g → IsPlanned v p (StartTimer is_named (Some time) (Some q) message) (Served answer) f g
+timer_serves v p child ref is_named time q lives message answer f g is_child is_ref so answered adds =
+    let l = line v p (StartTimer is_named (Some time) (Some q) message) in
+    serves v p (StartTimer is_named (Some time) (Some q) message) answer f g refl refl (answered ∙ ap reference is_ref)
+    (adds_as l.reads l.reads (GuardSet ref (Timer q time) ∷ put_if lives child q (events.Elapsed ref (timer_message is_named ref message))) l.changes f g refl (λ i. GuardSet (is_ref i) (Timer q time) ∷ put_if (so i) (is_child i) q (events.Elapsed (is_ref i) (timer_message is_named (is_ref i) message))) adds)
+
+pub cancel_serves : (v : Contents) (p : Pid) (ref : Ref) (guard : Option guards.Guard) (left : Option ℤ) (answer : Term) (f g : Planned) → guard ≡ v (cells.Guard ref) → left ≡ time_left v (timer_in guard) → meaning_of answer ≡ told_left left
+    → Adds (timer_reads ref (timer_in guard)) (timer_ends ref (timer_in guard)) f g → IsPlanned v p (CancelTimer (Some ref)) (Served answer) f g
+cancel_serves v p ref guard left answer f g is so answered adds =
+    let l = line v p (CancelTimer (Some ref)) in
+    serves v p (CancelTimer (Some ref)) answer f g refl refl (answered ∙ ap told_left (so ∙ ap (λ it. time_left v (timer_in it)) is))
+    (adds_as (timer_reads ref (timer_in guard)) l.reads (timer_ends ref (timer_in guard)) l.changes f g (ap (λ it. timer_reads ref (timer_in it)) is) (ap (λ it. timer_ends ref (timer_in it)) is) adds)
+
+pub reading_serves : (v : Contents) (p : Pid) (ref : Ref) (guard : Option guards.Guard) (left : Option ℤ) (answer : Term) (f g : Planned) → guard ≡ v (cells.Guard ref) → left ≡ time_left v (timer_in guard) → meaning_of answer ≡ told_left left
+    → Adds (timer_reads ref (timer_in guard)) [] f g → IsPlanned v p (ReadTimer (Some ref)) (Served answer) f g
+reading_serves v p ref guard left answer f g is so answered adds =
+    let l = line v p (ReadTimer (Some ref)) in
+    serves v p (ReadTimer (Some ref)) answer f g refl refl (answered ∙ ap told_left (so ∙ ap (λ it. time_left v (timer_in it)) is))
+    (adds_as (timer_reads ref (timer_in guard)) l.reads [] [] f g (ap (λ it. timer_reads ref (timer_in it)) is) refl adds)
 
 -- ---- names
 

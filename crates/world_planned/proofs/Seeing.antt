@@ -7,7 +7,8 @@ use Rattle.term_core.specs.Meaning.{Meaning}
 use Rattle.world_model.specs.Cells as cells
 use Rattle.world_model.specs.Cells.{Contents}
 use Rattle.world_model.specs.Changes.{after}
-use Rattle.world_model.specs.Events.{Arrives, IsDropped, Kills, Signal, Message, Exit, LinkExit, Down}
+use Rattle.world_model.specs.Events.{Arrives, IsDropped, Kills, Signal, Message, Exit, LinkExit, Down, Guarded, Elapsed}
+use Rattle.world_model.specs.Guards.{is_alias_of, timer_in}
 use Rattle.world_model.specs.Names.{Pid}
 use Rattle.world_model.specs.Signals.{fate_of, goes_with, down_message}
 use Rattle.world_records.specs.Records.{Agrees}
@@ -29,7 +30,7 @@ no_kill true message reason e = absurd cc
 no_kill false message reason e = absurd cc
 
 -- after what goes with a signal that kills
-pub sees_killed : (m : ModuleTree) (records : Records) (links : Links) (v : Contents) (s r : Pid) (x : Signal) (reason : Meaning) → Agrees m records v → fate_of v s r x ≡ Kills reason → AreLinks links (after (goes_with s r x) v) → SeesEnd records links (after (goes_with s r x) v)
+pub sees_killed : (m : ModuleTree) (records : Records) (links : Links) (v : Contents) (s r : Pid) (x : Signal) (reason : Meaning) → Agrees m records v → fate_of v s r x ≡ Kills reason → AreLinks links (after (goes_with v s r x) v) → SeesEnd records links (after (goes_with v s r x) v)
 sees_killed m records links v s r (Message message) reason told kills links_are_ = absurd cc
 sees_killed m records links v s r (Exit x) reason told kills links_are_ = sees_now m records links v told links_are_
 sees_killed m records links v s r (LinkExit x) reason told kills links_are_ = record {
@@ -41,3 +42,5 @@ sees_killed m records links v s r (LinkExit x) reason told kills links_are_ = re
   tables = told.tables_are.are.tables;
 }
 sees_killed m records links v s r (Down ref x) reason told kills links_are_ = absurd (no_kill (is_some (v (cells.Watch ref))) (down_message ref s x) reason kills)
+sees_killed m records links v s r (Guarded ref x) reason told kills links_are_ = absurd (no_kill (is_alias_of r (v (cells.Guard ref))) x reason kills)
+sees_killed m records links v s r (Elapsed ref x) reason told kills links_are_ = absurd (no_kill (is_some (timer_in (v (cells.Guard ref)))) x reason kills)

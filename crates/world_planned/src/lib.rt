@@ -3,6 +3,7 @@
 #![tactic(auto)]
 
 pub mod ends;
+pub mod guarding;
 pub mod planned;
 pub mod readings;
 pub mod reply;

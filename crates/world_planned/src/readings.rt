@@ -1,6 +1,7 @@
 // What the records of a world say of single cells. None of this takes memory.
 ghost use Rattle.std.specs.List.{list_any};
 ghost use Rattle.std.specs.Prelude.{◌≡◌, true, option_copied, option_map};
+ghost use Rattle.proc_links.specs.Guards.{guard_of};
 ghost use Rattle.proc_links.specs.Process.{are_trapped, is_alive};
 ghost use Rattle.proc_machines.specs.Processes.{lives_in};
 ghost use Rattle.proc_signals.specs.Signal.{signal_of};
@@ -8,13 +9,14 @@ ghost use Rattle.term_core.specs.Term.{meaning_of};
 ghost use Rattle.world_model.specs.Cells as cells;
 ghost use Rattle.world_model.specs.Cells.{Contents};
 ghost use Rattle.world_model.specs.Changes.{AliveCleared, changed, is_of_watch};
+ghost use Rattle.world_model.specs.Guards.{aliased, ends_by_reply, is_alias_of};
 ghost use Rattle.world_model.specs.Mailboxes.{mailbox_in, selected_of};
 ghost use Rattle.world_model.specs.Names as names;
 ghost use Rattle.world_model.specs.Names.{same_pid, ref_of};
 ghost use Rattle.world_model.specs.Signals.{first_of, waiting_in};
 ghost use Rattle.world_records.specs.Records.{OfWorld, processes_of};
 
-use proc_links::{Exits, Life, Living};
+use proc_links::{Exits, Guard, Life, Living};
 use proc_signals::Signal;
 use term_core::{Atom, Pid, RefId, Term};
 use world_records::Records;
@@ -97,6 +99,34 @@ pub fn watched<'r>(records: &'r Records<'_>, reference: &RefId) -> Option<&'r Pi
     ensures { OfWorld records.now (λ m v. option_copied result ≡ v (cells.Watch (ref_of reference.now))) }
 {
     records.watchers().watch_of(reference)
+}
+
+/// What lets messages in that are sent to a reference.
+pub fn guard<'r>(records: &'r Records<'_>, reference: &RefId) -> Option<&'r Guard>
+    ensures { OfWorld records.now (λ m v. option_map guard_of (option_copied result) ≡ v (cells.Guard (ref_of reference.now))) }
+{
+    records.guards().guard_of(reference)
+}
+
+/// The process that a reference is an alias of.
+pub fn aliased<'r>(records: &'r Records<'_>, reference: &RefId) -> Option<&'r Pid>
+    ensures { OfWorld records.now (λ m v. option_copied result ≡ aliased (v (cells.Guard (ref_of reference.now)))) }
+{
+    records.guards().alias_of(reference)
+}
+
+/// Whether a reference is an alias of a process.
+pub fn is_alias(records: &Records<'_>, reference: &RefId, pid: &Pid) -> bool
+    ensures { OfWorld records.now (λ m v. result ≡ is_alias_of pid.now (v (cells.Guard (ref_of reference.now)))) }
+{
+    records.guards().is_alias_of(reference, pid)
+}
+
+/// Whether a reference is an alias of a process that a message through it ends.
+pub fn ends_by_reply(records: &Records<'_>, reference: &RefId, pid: &Pid) -> bool
+    ensures { OfWorld records.now (λ m v. result ≡ ends_by_reply pid.now (v (cells.Guard (ref_of reference.now)))) }
+{
+    records.guards().ends_by_reply(reference, pid)
 }
 
 /// The oldest signal on its way from one process to another.

@@ -33,8 +33,9 @@ pub fn next_reference(
     Ok(reference)
 }
 
-// The process that a process begins next.
-fn next_process(records: &Records<'_>, alloc: Global, caller: &Pid) -> Result<Pid, AllocError>
+/// The process that a process begins next, or the sender of the timer that it starts next. `AllocError` if there is no
+/// memory, or no number is left.
+pub fn next_process(records: &Records<'_>, alloc: Global, caller: &Pid) -> Result<Pid, AllocError>
     ensures { IfOk result (λ child. OfWorld records.now (λ m v. child ≡ next_child v caller.now)) }
 {
     let number = records.next_number(caller)?;

@@ -7,24 +7,26 @@ use Rattle.ets_rules.specs.Changes as rules
 use Rattle.ets_rules.proofs.Planning.{line_applies, new_applies}
 use Rattle.term_core.specs.Meaning.{Meaning}
 use Rattle.term_core.specs.declared.step.Step.TheVariants.{Turn, Deliver}
-use Rattle.world_model.specs.Calls.{Call, Spawn, SpawnWay, Alone, Linked, Watched, Send, ToNobody, ToProcess, ToName, SendExit, Link, Unlink, Monitor, Demonitor, Flag, Register, Unregister, WhereIs, IsAlive, MakeRef, New, OnTable, Misfit, TableCall, First, call_of}
+use Rattle.world_model.specs.Calls.{Call, Spawn, SpawnWay, Alone, Linked, Watched, Send, ToNobody, ToProcess, ToName, ToReference, SendExit, Link, Unlink, Monitor, Demonitor, Flag, Register, Unregister, WhereIs, IsAlive, MakeRef, MakeAlias, Unalias, StartTimer, CancelTimer, ReadTimer, New, OnTable, Misfit, TableCall, First, call_of}
 use Rattle.world_model.specs.Cells as cells
 use Rattle.world_model.specs.Cells.{Contents}
-use Rattle.world_model.specs.Changes.{Change, RowWritten, TableSet, MessageTaken, OwnedCleared, AliveCleared, WatchCleared, WatcherRemoved, CellTouched, TableNameCleared, after, cell_of, changed, is_of_watch}
+use Rattle.world_model.specs.Changes.{Change, RowWritten, TableSet, MessageTaken, OwnedCleared, AliveCleared, WatchCleared, WatcherRemoved, GuardCleared, GuardUnwatched, CellTouched, TableNameCleared, after, cell_of, changed, is_of_watch}
 use Rattle.world_model.specs.Ends.{ends, left_by, living_heir, name_left, partners_told, passed, table_passes, tables_pass, watchers_told}
-use Rattle.world_model.specs.Events.{Deed, Served, Refused, EndedItself, Received, TimedOut, Ended, RanAway, Delivered, Refusal, Signal, Message, Exit, LinkExit, Down, Fate, Arrives, IsIgnored, IsDropped, Kills}
+use Rattle.world_model.specs.Events.{Deed, Served, Refused, EndedItself, Received, TimedOut, Ended, RanAway, Delivered, Refusal, Signal, Message, Exit, LinkExit, Down, Guarded, Elapsed, Fate, Arrives, IsIgnored, IsDropped, Kills}
 use Rattle.world_model.specs.TableAccess.{Found, find}
 use Rattle.world_model.specs.TableRules.{found_line}
+use Rattle.world_model.specs.Guards.{aliased, ends_by_reply, is_alias_of, timer_in}
 use Rattle.world_model.specs.Lines.{line}
 use Rattle.world_model.specs.Mailboxes.{mailbox_in, selected_of}
 use Rattle.world_model.specs.Names.{Name, Pid, Ref, same_pid, same_term}
-use Rattle.world_model.specs.ProcessLines.{LinkWay, Stands, Pairs, PairsGone, Fails, bound, exited, flushed, gone_told, link_changes, link_way, child_of, next_ref, ref_of_turn, sent, sent_to_holder, unregister_line, watch_ends}
+use Rattle.world_model.specs.ProcessLines.{LinkWay, Stands, Pairs, PairsGone, Fails, alias_begins, alias_beside, bound, exited, flushed, gone_told, link_changes, link_way, child_of, next_ref, ref_of_turn, send_line, sent, sent_to_holder, timer_message, unregister_line, watch_ends}
 use Rattle.world_model.specs.Requests.{Calls, Ends, Program, Receives, Request, RunsAway}
-use Rattle.world_model.specs.Signals.{goes_with, put_if}
+use Rattle.world_model.specs.Signals.{goes_with, put_if, reply_ends}
 use Rattle.world_model.specs.Steps.{asked, changes_of_fate, deed_asked, deed_of_call, ended_or, ends_itself, judged, must_wait, next_deed, received, runaway}
 use Rattle.world_model.specs.TableLines.{table_line}
 use Rattle.world_model.specs.Tables as tables
 use Rattle.world_model.specs.Tables.{Heir}
+use Rattle.world_model.specs.declared.alias.AliasEnd.{AliasEnd}
 use Rattle.world_model.proofs.MailboxLaws.{selected_there}
 use Rattle.world_model.proofs.Named.{found_there}
 use Rattle.world_model.proofs.SortLaws.{AllAmong, call_among, table_among}
@@ -113,11 +115,18 @@ ends_plain v p reason = left_plain (changed (AliveCleared p) v) p reason
 
 -- ---- deliveries
 
-goes_plain : (s r : Pid) (x : Signal) → all_plain (goes_with s r x) ≡ true
-goes_plain s r (Message m) = refl
-goes_plain s r (Exit reason) = refl
-goes_plain s r (LinkExit reason) = refl
-goes_plain s r (Down ref reason) = refl
+reply_plain : (b : Bool) (ref : Ref) (target : Option Pid) → all_plain (reply_ends b ref target) ≡ true
+reply_plain false ref target = refl
+reply_plain true ref None = refl
+reply_plain true ref (Some q) = refl
+
+goes_plain : (v : Contents) (s r : Pid) (x : Signal) → all_plain (goes_with v s r x) ≡ true
+goes_plain v s r (Message m) = refl
+goes_plain v s r (Exit reason) = refl
+goes_plain v s r (LinkExit reason) = refl
+goes_plain v s r (Down ref reason) = refl
+goes_plain v s r (Guarded ref message) = reply_plain (ends_by_reply r (v (cells.Guard ref))) ref (v (cells.Watch ref))
+goes_plain v s r (Elapsed ref message) = refl
 
 fate_plain : (v : Contents) (r : Pid) (fate : Fate) → all_plain (changes_of_fate v r fate) ≡ true
 fate_plain v r (Arrives message) = refl
@@ -140,6 +149,10 @@ holder_plain : (v : Contents) (p : Pid) (o : Option Pid) (message : Meaning) →
 holder_plain v p None message = refl
 holder_plain v p (Some to) message = sent_plain (same_pid p to) v p to message
 
+alias_plain : (v : Contents) (p : Pid) (ref : Ref) (o : Option Pid) (message : Meaning) → all_plain (send_line v p ref o message).changes ≡ true
+alias_plain v p ref None message = refl
+alias_plain v p ref (Some q) message = put_plain (v (cells.Alive q)) p q (Guarded ref message)
+
 exited_plain : (own : Bool) (v : Contents) (p q : Pid) (reason : Meaning) → all_plain (exited own v p q reason) ≡ true
 exited_plain true v p q reason = refl
 exited_plain false v p q reason = put_plain (v (cells.Alive q)) p q (Exit reason)
@@ -154,7 +167,15 @@ gone_plain : (b : Bool) (p q : Pid) (ref : Ref) → all_plain (gone_told b p q r
 gone_plain true p q ref = refl
 gone_plain false p q ref = refl
 
-own_watch_plain : (b : Bool) (ref : Ref) (q : Pid) → all_plain (if b then WatchCleared ref ∷ WatcherRemoved q ref ∷ [] else CellTouched (cells.Watch ref) ∷ CellTouched (cells.Watchers q) ∷ []) ≡ true
+begins_plain : (p : Pid) (ref : Ref) (alias : Option AliasEnd) → all_plain (alias_begins p ref alias) ≡ true
+begins_plain p ref None = refl
+begins_plain p ref (Some end) = refl
+
+cleared_plain : (b : Bool) (ref : Ref) → all_plain (if b then GuardCleared ref ∷ [] else []) ≡ true
+cleared_plain true ref = refl
+cleared_plain false ref = refl
+
+own_watch_plain : (b : Bool) (ref : Ref) (q : Pid) → all_plain (if b then WatchCleared ref ∷ WatcherRemoved q ref ∷ GuardUnwatched ref ∷ [] else CellTouched (cells.Watch ref) ∷ CellTouched (cells.Watchers q) ∷ []) ≡ true
 own_watch_plain true ref q = refl
 own_watch_plain false ref q = refl
 
@@ -176,7 +197,7 @@ plain_then w (k ∷ ks) ls e can =
     (one_plain w k both.0, plain_then (changed k w) ks ls both.1 can)
 
 -- the end of a watch leaves mailboxes
-own_watch_alone : (b : Bool) (ref : Ref) (q : Pid) (w : Contents) (p : Pid) → mailbox_in (after (if b then WatchCleared ref ∷ WatcherRemoved q ref ∷ [] else CellTouched (cells.Watch ref) ∷ CellTouched (cells.Watchers q) ∷ []) w) p ≡ mailbox_in w p
+own_watch_alone : (b : Bool) (ref : Ref) (q : Pid) (w : Contents) (p : Pid) → mailbox_in (after (if b then WatchCleared ref ∷ WatcherRemoved q ref ∷ GuardUnwatched ref ∷ [] else CellTouched (cells.Watch ref) ∷ CellTouched (cells.Watchers q) ∷ []) w) p ≡ mailbox_in w p
 own_watch_alone true ref q w p = refl
 own_watch_alone false ref q w p = refl
 
@@ -214,6 +235,7 @@ call_applies v w p (Spawn way None) same mail new = record {}
 call_applies v w p (Spawn way (Some origin)) same mail new = plain_applies w (line v p (Spawn way (Some origin))).changes (bound_plain way p (child_of p (v (cells.Machine p))) (ref_of_turn p (v (cells.Machine p))))
 call_applies v w p (Send ToNobody message) same mail new = record {}
 call_applies v w p (Send (ToProcess q) message) same mail new = plain_applies w (sent (same_pid p q) v p q message) (sent_plain (same_pid p q) v p q message)
+call_applies v w p (Send (ToReference ref) message) same mail new = plain_applies w (line v p (Send (ToReference ref) message)).changes (alias_plain v p ref (aliased (v (cells.Guard ref))) message)
 call_applies v w p (Send (ToName name) message) same mail new = plain_applies w (sent_to_holder v p (v (cells.Holder name)) message) (holder_plain v p (v (cells.Holder name)) message)
 call_applies v w p (SendExit None reason) same mail new = record {}
 call_applies v w p (SendExit (Some q) reason) same mail new = plain_applies w (exited (same_pid p q) v p q reason) (exited_plain (same_pid p q) v p q reason)
@@ -221,10 +243,14 @@ call_applies v w p (Link None) same mail new = record {}
 call_applies v w p (Link (Some q)) same mail new = let way = link_way p q (v (cells.Links p)) (v (cells.Alive q)) (v (cells.Trap p)) in plain_applies w (link_changes p q way) (link_plain p q way)
 call_applies v w p (Unlink None) same mail new = record {}
 call_applies v w p (Unlink (Some q)) same mail new = plain_applies w (line v p (Unlink (Some q))).changes refl
-call_applies v w p (Monitor false None) same mail new = record {}
-call_applies v w p (Monitor true None) same mail new = record {}
-call_applies v w p (Monitor false (Some q)) same mail new = record {}
-call_applies v w p (Monitor true (Some q)) same mail new = plain_applies w (line v p (Monitor true (Some q))).changes (gone_plain (v (cells.Alive q)) p q (ref_of_turn p (v (cells.Machine p))))
+call_applies v w p (Monitor false None alias) same mail new = record {}
+call_applies v w p (Monitor true None alias) same mail new = record {}
+call_applies v w p (Monitor false (Some q) alias) same mail new = record {}
+call_applies v w p (Monitor true (Some q) None) same mail new = record {}
+call_applies v w p (Monitor true (Some q) (Some alias)) same mail new =
+    let ref = ref_of_turn p (v (cells.Machine p)) in
+    let begun = alias_beside (same_pid p q) alias in
+    plain_applies w (line v p (Monitor true (Some q) (Some alias))).changes (plain_both (alias_begins p ref begun) (gone_told (v (cells.Alive q)) p q ref) (begins_plain p ref begun) (gone_plain (v (cells.Alive q)) p q ref))
 call_applies v w p (Demonitor None flushes) same mail new = record {}
 call_applies v w p (Demonitor (Some ref) None) same mail new = record {}
 call_applies v w p (Demonitor (Some ref) (Some flushes)) same mail new =
@@ -245,6 +271,19 @@ call_applies v w p (WhereIs (Some name)) same mail new = record {}
 call_applies v w p (IsAlive None) same mail new = record {}
 call_applies v w p (IsAlive (Some q)) same mail new = record {}
 call_applies v w p MakeRef same mail new = record {}
+call_applies v w p (MakeAlias None) same mail new = record {}
+call_applies v w p (MakeAlias (Some end)) same mail new = (record {}, record {})
+call_applies v w p (Unalias None) same mail new = record {}
+call_applies v w p (Unalias (Some ref)) same mail new = plain_applies w (line v p (Unalias (Some ref))).changes (cleared_plain (is_alias_of p (v (cells.Guard ref))) ref)
+call_applies v w p (StartTimer is_named time None message) same mail new = record {}
+call_applies v w p (StartTimer is_named None (Some q) message) same mail new = record {}
+call_applies v w p (StartTimer is_named (Some time) (Some q) message) same mail new =
+    let ref = ref_of_turn p (v (cells.Machine p)) in
+    plain_applies w (line v p (StartTimer is_named (Some time) (Some q) message)).changes (put_plain (v (cells.Alive q)) (child_of p (v (cells.Machine p))) q (Elapsed ref (timer_message is_named ref message)))
+call_applies v w p (CancelTimer None) same mail new = record {}
+call_applies v w p (CancelTimer (Some ref)) same mail new = plain_applies w (line v p (CancelTimer (Some ref))).changes (cleared_plain (is_some (timer_in (v (cells.Guard ref)))) ref)
+call_applies v w p (ReadTimer None) same mail new = record {}
+call_applies v w p (ReadTimer (Some ref)) same mail new = record {}
 call_applies v w p (New None options) same mail new = record {}
 call_applies v w p (New (Some name) None) same mail new = record {}
 call_applies v w p (New (Some name) (Some os)) same mail new =
@@ -313,6 +352,6 @@ applies a v (Turn p) (Ended reason) is new = plain_applies _ (left_by (changed (
 applies a v (Turn p) RanAway is new = plain_applies _ (left_by (changed (AliveCleared p) v) p runaway) (left_plain (changed (AliveCleared p) v) p runaway)
 applies a v (Turn p) (Delivered signal fate) is new = record {}
 applies a v (Deliver s r) (Delivered signal fate) is new =
-    plain_applies _ (goes_with s r signal ++ changes_of_fate (after (goes_with s r signal) v) r fate)
-    (plain_both (goes_with s r signal) (changes_of_fate (after (goes_with s r signal) v) r fate) (goes_plain s r signal) (fate_plain (after (goes_with s r signal) v) r fate))
+    plain_applies _ (goes_with v s r signal ++ changes_of_fate (after (goes_with v s r signal) v) r fate)
+    (plain_both (goes_with v s r signal) (changes_of_fate (after (goes_with v s r signal) v) r fate) (goes_plain v s r signal) (fate_plain (after (goes_with v s r signal) v) r fate))
 applies a v (Deliver s r) deed is new = record {}

@@ -148,13 +148,13 @@ signal_delivered v s r x deed f g first planned = record {
 }
 
 pub signal_planned : (v : Contents) (s r : Pid) (x : Signal) (deed : stored.Deed) (fate : Fate) (f g h : Planned) → fate ≡ fate_of v s r x → deed_in deed ≡ Delivered x fate
-    → Adds (reads_of_fate v s r x) (goes_with s r x) f g
-    → Adds (reads_if_killed (after (goes_with s r x) v) r fate) (changes_of_fate (after (goes_with s r x) v) r fate) g h → IsPlannedSignal v s r x deed f h
+    → Adds (reads_of_fate v s r x) (goes_with v s r x) f g
+    → Adds (reads_if_killed (after (goes_with v s r x) v) r fate) (changes_of_fate (after (goes_with v s r x) v) r fate) g h → IsPlannedSignal v s r x deed f h
 signal_planned v s r x deed fate f g h is delivered first then_ =
-    let w = after (goes_with s r x) v in
+    let w = after (goes_with v s r x) v in
     record {
       is_delivered = delivered ∙ ap (Delivered x) is;
-      adds = adds_as _ _ _ _ f h (ap (λ e. reads_of_fate v s r x ++ reads_if_killed w r e) is) (ap (λ e. goes_with s r x ++ changes_of_fate w r e) is) (adds_then _ _ _ _ f g h first then_);
+      adds = adds_as _ _ _ _ f h (ap (λ e. reads_of_fate v s r x ++ reads_if_killed w r e) is) (ap (λ e. goes_with v s r x ++ changes_of_fate w r e) is) (adds_then _ _ _ _ f g h first then_);
     }
 
 -- ---- last turns

@@ -6,13 +6,13 @@ ghost use Rattle.proc_links.specs.Links.{AreLinks};
 ghost use Rattle.proc_signals.specs.Signal.{signal_of};
 ghost use Rattle.world_planned.specs.inside.Planned.{Adds};
 ghost use Rattle.world_plans.specs.inside.Turns.{PlansDelivery};
-ghost use Rattle.world_plans.specs.inside.Delivered.{PlansFate, PlansKilled, PlansSignal, PlansUnlinked, PlansUnwatched};
+ghost use Rattle.world_plans.specs.inside.Delivered.{PlansElapsed, PlansFate, PlansKilled, PlansPassed, PlansSignal, PlansUnlinked, PlansUnwatched, is_of_link};
 ghost use Rattle.world_model.specs.Cells as cells;
 ghost use Rattle.world_model.specs.Cells.{Contents};
 ghost use Rattle.term_core.specs.Term.{meaning_of};
 ghost use Rattle.world_model.specs.Changes.{after};
 ghost use Rattle.world_model.specs.Names.{same_pid, ref_of};
-ghost use Rattle.world_model.specs.Signals.{fate_of, goes_with, reads_of_fate, trap_if};
+ghost use Rattle.world_model.specs.Signals.{fate_of, goes_with, pair_goes, reads_of_fate, trap_if};
 ghost use Rattle.world_records.specs.Records.{OfWorld};
 
 use proc_links::{Effect, Links, on_signal};
@@ -21,6 +21,7 @@ use std::alloc::{AllocError, Global};
 use term_core::{Pid, RefId, Term};
 use world_footprints::deed::Deed;
 use world_planned::ends::leave;
+use world_planned::guarding::reply;
 use world_planned::planned::Planned;
 use world_planned::readings::{front, has_partner};
 use world_records::{Change, ChannelPart, ProcessPart, Records, ReferencePart};
@@ -44,6 +45,7 @@ fn effect_at(
         exits,
         records.links(),
         records.watchers(),
+        records.guards(),
     )
 }
 
@@ -78,13 +80,37 @@ fn unpair(
     Ok(())
 }
 
-// The signal of a watch: the watch is read, and goes.
+// The signal of a watch: the watch is read, and goes, and with it an alias that was made so.
 fn unwatch(reference: &RefId, from: &Pid, planned: &mut Planned) -> Result<(), AllocError>
     ensures { OnOk result (PlansUnwatched (ref_of reference.now) from.now planned.old planned.new) }
 {
     planned.read_reference(ReferencePart::Watch, reference)?;
     planned.read_process(ProcessPart::Watchers, from)?;
     planned.change(Change::WatchCleared(reference.copy()?, from.copy()?))?;
+    planned.change(Change::GuardUnwatched(reference.copy()?))?;
+    Ok(())
+}
+
+// A message to a reference: its guard is read, and ends where a reply ends it.
+fn pass(
+    records: &Records<'_>,
+    to: &Pid,
+    reference: &RefId,
+    planned: &mut Planned,
+) -> Result<(), AllocError>
+    ensures { OnOk result (OfWorld records.now (λ m v. PlansPassed v to.now (ref_of reference.now) planned.old planned.new)) }
+{
+    planned.read_reference(ReferencePart::Guard, reference)?;
+    reply(records, to, reference, planned)?;
+    Ok(())
+}
+
+// The message of a timer: the timer is read, and ends.
+fn elapse(reference: &RefId, planned: &mut Planned) -> Result<(), AllocError>
+    ensures { OnOk result (PlansElapsed (ref_of reference.now) planned.old planned.new) }
+{
+    planned.read_reference(ReferencePart::Guard, reference)?;
+    planned.change(Change::GuardCleared(reference.copy()?))?;
     Ok(())
 }
 
@@ -96,23 +122,44 @@ fn go_with(
     signal: &Signal,
     planned: &mut Planned,
 ) -> Result<(), AllocError>
-    ensures { OnOk result (OfWorld records.now (λ m v. Adds (reads_of_fate v from.now to.now (signal_of signal.now)) (goes_with from.now to.now (signal_of signal.now)) planned.old planned.new)) }
+    ensures { OnOk result (OfWorld records.now (λ m v. Adds (reads_of_fate v from.now to.now (signal_of signal.now)) (goes_with v from.now to.now (signal_of signal.now)) planned.old planned.new)) }
 {
     match signal {
         Signal::Message(_) => Ok(()),
         Signal::Exit(_) => planned.read_process(ProcessPart::Trap, to),
         Signal::LinkExit(_) => unpair(records, from, to, planned),
         Signal::Down(reference, _) => unwatch(reference, from, planned),
+        Signal::Guarded(reference, _) => pass(records, to, reference, planned),
+        Signal::Elapsed(reference, _) => elapse(reference, planned),
     }
+}
+
+// Whether a signal is that of a link.
+fn is_of_link(signal: &Signal) -> bool
+    ensures { result ≡ is_of_link (signal_of signal.now) }
+{
+    match signal {
+        Signal::LinkExit(_) => true,
+        _ => false,
+    }
+}
+
+// The links without that of two processes.
+fn unlinked(links: Links, from: &Pid, to: &Pid) -> Result<Links, AllocError>
+    ensures { IfOk result (λ unlinked. (v : Contents) → AreLinks links v → AreLinks unlinked (after (pair_goes from.now to.now) v)) }
+{
+    let mut unlinked = links;
+    unlinked.unpair(from, to)?;
+    Ok(unlinked)
 }
 
 // The links when what goes with a signal is gone.
 fn parted(links: &Links, from: &Pid, to: &Pid, signal: &Signal) -> Result<Links, AllocError>
-    ensures { IfOk result (λ parted. (v : Contents) → AreLinks links.now v → AreLinks parted (after (goes_with from.now to.now (signal_of signal.now)) v)) }
+    ensures { IfOk result (λ parted. (v : Contents) → AreLinks links.now v → AreLinks parted (after (goes_with v from.now to.now (signal_of signal.now)) v)) }
 {
-    let mut parted = links.copy()?;
-    if let Signal::LinkExit(_) = signal {
-        parted.unpair(from, to)?;
+    let parted = links.copy()?;
+    if is_of_link(signal) {
+        return unlinked(parted, from, to);
     }
     Ok(parted)
 }

@@ -1,7 +1,7 @@
-// Links and watches (erlang manual, `link/1`, `unlink/1`, `monitor/2`, `demonitor/2`).
-ghost use Rattle.std.specs.Prelude.{◌≡◌, ◌∷◌, ◌++◌, [], false, true, IfOk, OnOk, Some, option_copied, option_map};
+// Links and watches (erlang manual, `link/1`, `unlink/1`, `monitor/2`, `monitor/3`, `demonitor/2`).
+ghost use Rattle.std.specs.Prelude.{◌≡◌, ◌∷◌, ◌++◌, [], false, true, IfOk, OnOk, Option, Some, None, option_copied, option_map};
 ghost use Rattle.proc_calls.specs.Arguments.{flushes, is_process};
-ghost use Rattle.world_model.specs.Names.{ref_of};
+ghost use Rattle.world_model.specs.Names.{ref_of, same_pid};
 ghost use Rattle.proc_links.specs.Links.{way_of};
 ghost use Rattle.world_planned.specs.inside.Planned.{Adds};
 ghost use Rattle.world_planned.specs.inside.PlannedCalls.{Plans};
@@ -11,16 +11,19 @@ ghost use Rattle.world_model.specs.Cells as cells;
 ghost use Rattle.world_model.specs.Changes as changes;
 ghost use Rattle.world_model.specs.Changes.{is_of_watch};
 ghost use Rattle.world_model.specs.Mailboxes.{mailbox_in, selected_of};
-ghost use Rattle.world_model.specs.ProcessLines.{demonitor_reads, gone_told, link_changes, link_way, noproc, watch_begins, watch_ends};
+ghost use Rattle.world_model.specs.ProcessLines.{alias_begins, alias_beside, demonitor_reads, gone_told, link_changes, link_way, noproc, watch_begins, watch_ends};
+ghost use Rattle.world_model.specs.declared.alias.AliasEnd.{AliasEnd};
 ghost use Rattle.world_records.specs.Records.{OfWorld};
 ghost use Rattle.world_records.specs.declared.records.Records as declared;
 ghost use Rattle.world_planned.specs.inside.Messages.{PlansFlushed, PlansPicked};
 
+use crate::guarding::set_alias;
 use proc_calls::{Flushing, MonitorType};
 use proc_links::Linking;
 use proc_signals::Signal;
 use std::alloc::{AllocError, Global};
 use term_core::{Pid, RefId, Term};
+use world_model::alias::AliasEnd;
 use world_planned::planned::Planned;
 use world_planned::readings::{down, exits, life, lives, watched};
 use world_planned::reply::{Refusal, Reply, done};
@@ -145,8 +148,30 @@ pub(crate) fn unlink(
     }
 }
 
-// A watch begins, and a process that is gone is reported at once.
-fn begin_watch(
+// With the watch of another an alias may begin.
+fn alias_beside(caller: &Pid, whom: &Pid, alias: Option<AliasEnd>) -> Option<AliasEnd>
+    ensures { result ≡ alias_beside (same_pid caller.now whom.now) alias }
+{
+    if *caller == *whom { None } else { alias }
+}
+
+// With a watch an alias may begin.
+fn begin_alias(
+    caller: &Pid,
+    reference: &RefId,
+    alias: Option<AliasEnd>,
+    planned: &mut Planned,
+) -> Result<(), AllocError>
+    ensures { OnOk result (Adds [] (alias_begins caller.now (ref_of reference.now) alias) planned.old planned.new) }
+{
+    match alias {
+        Some(end) => set_alias(caller, reference, end, planned),
+        None => Ok(()),
+    }
+}
+
+// A process that is gone is reported at once.
+fn tell_gone(
     alloc: Global,
     caller: &Pid,
     whom: &Pid,
@@ -154,13 +179,27 @@ fn begin_watch(
     lives: bool,
     planned: &mut Planned,
 ) -> Result<(), AllocError>
-    ensures { OnOk result (Adds [] (watch_begins (ref_of reference.now) whom.now ++ gone_told lives caller.now whom.now (ref_of reference.now)) planned.old planned.new) }
+    ensures { OnOk result (Adds [] (gone_told lives caller.now whom.now (ref_of reference.now)) planned.old planned.new) }
 {
-    planned.change(Change::WatchSet(reference.copy()?, whom.copy()?))?;
     if !lives {
         let down = Signal::Down(reference.copy()?, no_process(alloc)?);
         planned.change(Change::SignalPut(whom.copy()?, caller.copy()?, down))?;
     }
+    Ok(())
+}
+
+// A watch begins, with an alias where one is asked for.
+fn begin_watch(
+    caller: &Pid,
+    whom: &Pid,
+    reference: &RefId,
+    alias: Option<AliasEnd>,
+    planned: &mut Planned,
+) -> Result<(), AllocError>
+    ensures { OnOk result (Adds [] (watch_begins (ref_of reference.now) whom.now ++ alias_begins caller.now (ref_of reference.now) alias) planned.old planned.new) }
+{
+    planned.change(Change::WatchSet(reference.copy()?, whom.copy()?))?;
+    begin_alias(caller, reference, alias, planned)?;
     Ok(())
 }
 
@@ -170,42 +209,63 @@ fn watch(
     alloc: Global,
     caller: &Pid,
     whom: &Pid,
+    alias: Option<AliasEnd>,
     planned: &mut Planned,
 ) -> Result<Reply, AllocError>
-    ensures { IfOk result (λ reply. Plans caller.now (calls.Monitor true (Some whom.now)) records.now reply planned.old planned.new) }
+    ensures { IfOk result (λ reply. Plans caller.now (calls.Monitor true (Some whom.now) (Some alias)) records.now reply planned.old planned.new) }
 {
     planned.read_process(ProcessPart::Alive, whom)?;
     let reference = next_reference(records, alloc, caller)?;
     let lives = lives(records, whom);
-    begin_watch(alloc, caller, whom, &reference, lives, planned)?;
+    let begun = alias_beside(caller, whom, alias);
+    begin_watch(caller, whom, &reference, begun, planned)?;
+    tell_gone(alloc, caller, whom, &reference, lives, planned)?;
     Ok(Reply::Served(Term::Ref(reference)))
 }
 
 // A process is named in a call that is refused.
 fn refuse_watch(caller: &Pid, whom: &Pid, planned: &mut Planned) -> Result<Reply, AllocError>
-    ensures { IfOk result (λ reply. (records : declared.Records) → Plans caller.now (calls.Monitor false (Some whom.now)) records reply planned.old planned.new) }
+    ensures kind { IfOk result (λ reply. (records : declared.Records) (alias : Option (Option AliasEnd)) → Plans caller.now (calls.Monitor false (Some whom.now) alias) records reply planned.old planned.new) }
+    ensures options { IfOk result (λ reply. (records : declared.Records) → Plans caller.now (calls.Monitor true (Some whom.now) None) records reply planned.old planned.new) }
 {
     planned.read_process(ProcessPart::Alive, whom)?;
     Ok(Reply::Refused(Refusal::BadArgument))
 }
 
-/// `monitor/2`. `AllocError` if there is no memory.
+// `monitor/2` and `monitor/3` of a process.
+fn monitor_process(
+    records: &Records<'_>,
+    alloc: Global,
+    caller: &Pid,
+    kind: MonitorType,
+    whom: &Pid,
+    alias: Option<Option<AliasEnd>>,
+    planned: &mut Planned,
+) -> Result<Reply, AllocError>
+    ensures { IfOk result (λ reply. Plans caller.now (calls.Monitor (is_process kind) (Some whom.now) alias) records.now reply planned.old planned.new) }
+{
+    match (kind, alias) {
+        (MonitorType::Process, Some(alias)) => watch(records, alloc, caller, whom, alias, planned),
+        (MonitorType::Process, None) => refuse_watch(caller, whom, planned),
+        (MonitorType::Another, _) => refuse_watch(caller, whom, planned),
+    }
+}
+
+/// `monitor/2` and `monitor/3`. `AllocError` if there is no memory.
 pub(crate) fn monitor(
     records: &Records<'_>,
     alloc: Global,
     caller: &Pid,
     kind: MonitorType,
     whom: Option<Pid>,
+    alias: Option<Option<AliasEnd>>,
     planned: &mut Planned,
 ) -> Result<Reply, AllocError>
-    ensures { IfOk result (λ reply. Plans caller.now (calls.Monitor (is_process kind) whom) records.now reply planned.old planned.new) }
+    ensures { IfOk result (λ reply. Plans caller.now (calls.Monitor (is_process kind) whom alias) records.now reply planned.old planned.new) }
 {
-    let Some(whom) = whom else {
-        return Ok(Reply::Refused(Refusal::BadArgument));
-    };
-    match kind {
-        MonitorType::Process => watch(records, alloc, caller, &whom, planned),
-        MonitorType::Another => refuse_watch(caller, &whom, planned),
+    match whom {
+        Some(whom) => monitor_process(records, alloc, caller, kind, &whom, alias, planned),
+        None => Ok(Reply::Refused(Refusal::BadArgument)),
     }
 }
 
@@ -234,7 +294,8 @@ fn end_watch_of(
     ensures { OnOk result (Adds [] (watch_ends caller.now (ref_of reference.now) (Some target.now)) planned.old planned.new) }
 {
     if *reference.pid() == *caller {
-        return planned.change(Change::WatchCleared(reference.copy()?, target.copy()?));
+        planned.change(Change::WatchCleared(reference.copy()?, target.copy()?))?;
+        return planned.change(Change::GuardUnwatched(reference.copy()?));
     }
     planned.touch_reference(ReferencePart::Watch, reference)?;
     planned.touch_process(ProcessPart::Watchers, target)

@@ -2,6 +2,7 @@
 #![tactic(auto)]
 
 mod binding;
+mod guarding;
 mod naming;
 pub mod processes;
 mod sending;

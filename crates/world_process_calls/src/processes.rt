@@ -4,6 +4,7 @@ ghost use Rattle.proc_calls.specs.Calls.{call_in};
 ghost use Rattle.world_planned.specs.inside.PlannedCalls.{Plans};
 
 use crate::binding::{demonitor, link, monitor, unlink};
+use crate::guarding::{cancel_timer, make_alias, read_timer, start_timer, unalias};
 use crate::naming::{is_alive, register, set_flag, unregister, whereis};
 use crate::sending::{send, send_exit};
 use proc_calls::ProcessCall;
@@ -30,7 +31,9 @@ pub fn plan_process_call(
         ProcessCall::SendExit(to, reason) => send_exit(records, alloc, caller, to, reason, planned),
         ProcessCall::Link(to) => link(records, alloc, caller, to, planned),
         ProcessCall::Unlink(from) => unlink(caller, from, planned),
-        ProcessCall::Monitor(kind, whom) => monitor(records, alloc, caller, kind, whom, planned),
+        ProcessCall::Monitor(kind, whom, alias) => {
+            monitor(records, alloc, caller, kind, whom, alias, planned)
+        }
         ProcessCall::Demonitor(reference, flushing) => {
             demonitor(records, caller, reference, flushing, planned)
         }
@@ -40,5 +43,12 @@ pub fn plan_process_call(
         ProcessCall::WhereIs(name) => whereis(records, alloc, name, planned),
         ProcessCall::IsAlive(whom) => is_alive(records, caller, whom, planned),
         ProcessCall::MakeRef => make_ref(records, alloc, caller, planned),
+        ProcessCall::MakeAlias(end) => make_alias(records, alloc, caller, end, planned),
+        ProcessCall::Unalias(reference) => unalias(records, caller, reference, planned),
+        ProcessCall::StartTimer(naming, time, to, message) => {
+            start_timer(records, alloc, caller, naming, time, to, message, planned)
+        }
+        ProcessCall::CancelTimer(reference) => cancel_timer(records, reference, planned),
+        ProcessCall::ReadTimer(reference) => read_timer(records, reference, planned),
     }
 }

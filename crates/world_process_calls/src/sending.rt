@@ -9,7 +9,7 @@ ghost use Rattle.world_model.specs.Calls as calls;
 ghost use Rattle.world_model.specs.Cells as cells;
 ghost use Rattle.world_model.specs.Changes as changes;
 ghost use Rattle.world_model.specs.Ends.{reads_of_end};
-ghost use Rattle.world_model.specs.Names.{same_pid};
+ghost use Rattle.world_model.specs.Names.{ref_of, same_pid};
 ghost use Rattle.world_model.specs.Signals.{put_if};
 ghost use Rattle.world_model.specs.Steps.{ends_itself};
 ghost use Rattle.world_records.specs.Records.{OfWorld};
@@ -20,12 +20,12 @@ use proc_calls::Destination;
 use proc_links::{Effect, Sender, exit_message, on_exit};
 use proc_signals::Signal;
 use std::alloc::{AllocError, Global};
-use term_core::{Atom, Pid, Term};
+use term_core::{Atom, Pid, RefId, Term};
 use world_planned::ends::leave;
 use world_planned::planned::Planned;
-use world_planned::readings::{holder, lives};
+use world_planned::readings::{aliased, holder, lives};
 use world_planned::reply::{Refusal, Reply, done};
-use world_records::{Change, NamePart, ProcessPart, Records};
+use world_records::{Change, NamePart, ProcessPart, Records, ReferencePart};
 
 // A message to oneself, which comes in at once.
 fn mail(caller: &Pid, message: Term, planned: &mut Planned) -> Result<(), AllocError>
@@ -111,6 +111,26 @@ fn send_to_name(
     Ok(Reply::Served(answer))
 }
 
+// `send/2` to the process that a reference is an alias of.
+fn send_to_reference(
+    records: &Records<'_>,
+    caller: &Pid,
+    reference: &RefId,
+    message: Term,
+    planned: &mut Planned,
+) -> Result<Reply, AllocError>
+    ensures { IfOk result (λ reply. Plans caller.now (calls.Send (calls.ToReference (ref_of reference.now)) (meaning_of message)) records.now reply planned.old planned.new) }
+{
+    planned.read_reference(ReferencePart::Guard, reference)?;
+    let Some(owner) = aliased(records, reference) else {
+        return Ok(Reply::Served(message));
+    };
+    let answer = message.copy()?;
+    let guarded = Signal::Guarded(reference.copy()?, message);
+    put(records, caller, owner, guarded, planned)?;
+    Ok(Reply::Served(answer))
+}
+
 /// `!/2` and `send/2`. `AllocError` if there is no memory.
 pub(crate) fn send(
     records: &Records<'_>,
@@ -124,6 +144,9 @@ pub(crate) fn send(
     match destination {
         Destination::ToProcess(to) => send_to_process(records, caller, &to, message, planned),
         Destination::ToName(name) => send_to_name(records, caller, &name, message, planned),
+        Destination::ToReference(reference) => {
+            send_to_reference(records, caller, &reference, message, planned)
+        }
         Destination::ToNobody => Ok(Reply::Refused(Refusal::BadArgument)),
     }
 }

@@ -47,7 +47,7 @@ same_touched touched v c = either (cells.meet touched c) (v c)
 pub touches : (change : Change) (cell : stored.Cell) (old : Records) → change ≡ CellTouched cell → Applies change old old
 touches change cell old is = subst (λ k. Applies k old old) (sym is)
     (λ m v told can. let same = same_touched (cell_in cell) v in
-    agrees_same m old v (changed (changes.CellTouched (cell_in cell)) v) (λ c here. same c) (λ c here. same c) (λ c here. same c) (λ c here. same c) (λ c here. same c) (λ c here. same c) (λ c here. same c) told)
+    agrees_same m old v (changed (changes.CellTouched (cell_in cell)) v) (λ c here. same c) (λ c here. same c) (λ c here. same c) (λ c here. same c) (λ c here. same c) (λ c here. same c) (λ c here. same c) (λ c here. same c) told)
 
 -- ---- tables
 

@@ -13,6 +13,8 @@ use Rattle.ets_store.specs.Tables.{settings_in}
 use Rattle.ets_tables.specs.Shelves.{rows_of}
 use Rattle.ets_rules.specs.Tables as tables
 use Rattle.ets_rules.specs.Tables.{held_in, meant_in, owned_in}
+use Rattle.proc_links.specs.Guards as guards
+use Rattle.proc_links.specs.Guards.{guard_in}
 use Rattle.proc_links.specs.Links.{partners_in}
 use Rattle.proc_links.specs.Names.{holder_in, name_in}
 use Rattle.proc_links.specs.Watchers as watchers
@@ -27,15 +29,16 @@ use Rattle.world_records.specs.Records.{Agrees, AreAlike}
 use Rattle.world_records.specs.declared.records.Records.{Records}
 
 pub begins : (m : ModuleTree) (r : Records) → processes.Agrees m r.processes beginning → ((p : Pid) → messages_in r.mailboxes p ≡ []) → ((s t : Pid) → between r.channels s t ≡ []) → ((p : Pid) → partners_in r.links p ≡ [])
-    → ((p : Pid) → watchers_in r.watchers p ≡ []) → ((ref : Ref) → watch_in r.watchers ref ≡ None) → ((n : Name) → holder_in r.names n ≡ None) → ((p : Pid) → name_in r.names p ≡ None)
+    → ((p : Pid) → watchers_in r.watchers p ≡ []) → ((ref : Ref) → watch_in r.watchers ref ≡ None) → ((ref : Ref) → guard_in r.guards ref ≡ None) → ((n : Name) → holder_in r.names n ≡ None) → ((p : Pid) → name_in r.names p ≡ None)
     → ((t : Ref) → held_in r.tables t ≡ None) → ((n : Name) → meant_in r.tables n ≡ None) → ((p : Pid) → owned_in r.tables p ≡ []) → Agrees m r beginning
-begins m r begun no_mail no_signals no_links no_watchers no_watches no_holders no_names no_tables none_meant none_owned = record {
+begins m r begun no_mail no_signals no_links no_watchers no_watches no_guards no_holders no_names no_tables none_meant none_owned = record {
   processes_are = begun;
   mailboxes_are = λ p. record { left = no_mail p; behind = λ more. ap (λ ms. ms ++ more) (sym (no_mail p)) };
   channels_are = λ s t. record { waiting = no_signals s t; counted = omega arith };
   links_are = no_links;
   watchers_are = no_watchers;
   watches_are = no_watches;
+  guards_are = no_guards;
   holders_are = no_holders;
   borne_are = no_names;
   tables_are = record {
@@ -61,14 +64,15 @@ processes_alike m old new v same told = record {
 }
 
 pub alike : (old new : Records) → processes.IsUnchanged old.processes new.processes → ((p : Pid) → messages_in new.mailboxes p ≡ messages_in old.mailboxes p) → new.channels ≡ old.channels → ((p : Pid) → partners_in new.links p ≡ partners_in old.links p)
-    → watchers.IsUnchanged old.watchers new.watchers → ((n : Name) → holder_in new.names n ≡ holder_in old.names n) → ((p : Pid) → name_in new.names p ≡ name_in old.names p) → tables.IsUnchanged old.tables new.tables → AreAlike old new
-alike old new ps boxes channels links watches holders borne ts m v told = record {
+    → watchers.IsUnchanged old.watchers new.watchers → guards.IsUnchanged old.guards new.guards → ((n : Name) → holder_in new.names n ≡ holder_in old.names n) → ((p : Pid) → name_in new.names p ≡ name_in old.names p) → tables.IsUnchanged old.tables new.tables → AreAlike old new
+alike old new ps boxes channels links watches guarded holders borne ts m v told = record {
   processes_are = processes_alike m old.processes new.processes v ps told.processes_are;
   mailboxes_are = λ p. subst (λ ms. IsMailbox ms v p) (sym (boxes p)) (told.mailboxes_are p);
   channels_are = λ s t. record { waiting = ap (λ c. between c s t) channels ∙ (told.channels_are s t).waiting; counted = (told.channels_are s t).counted };
   links_are = λ p. links p ∙ told.links_are p;
   watchers_are = λ p. watches.watchers p ∙ told.watchers_are p;
   watches_are = λ ref. watches.watches ref ∙ told.watches_are ref;
+  guards_are = λ ref. guarded ref ∙ told.guards_are ref;
   holders_are = λ n. holders n ∙ told.holders_are n;
   borne_are = λ p. borne p ∙ told.borne_are p;
   tables_are = record {

@@ -13,9 +13,11 @@ use Rattle.world_model.specs.Rows.{some_if}
 use Rattle.world_model.proofs.Commuting.{stays}
 use Rattle.world_model.proofs.SortLaws.{AllAmong, untouched_by}
 use Rattle.world_model.proofs.Sorts.{is_among, sort_of}
+use Rattle.proc_links.specs.Guards.{AreGuards}
 use Rattle.proc_links.specs.Links.{AreLinks}
 use Rattle.proc_links.specs.Names.{AreHolders, AreBorne}
 use Rattle.proc_links.specs.Watchers.{AreWatchers, AreWatches}
+use Rattle.proc_links.specs.declared.guards.Guards.{Guards}
 use Rattle.proc_links.specs.declared.links.Links.{Links}
 use Rattle.proc_links.specs.declared.names.Names.{Names}
 use Rattle.proc_links.specs.declared.watchers.Watchers.{Watchers}
@@ -44,6 +46,9 @@ of_links = 6 ∷ []
 
 abbrev pub of_watches : List ℕ
 of_watches = 7 ∷ 8 ∷ []
+
+abbrev pub of_guards : List ℕ
+of_guards = 16 ∷ []
 
 abbrev pub of_names : List ℕ
 of_names = 9 ∷ 10 ∷ []
@@ -121,6 +126,9 @@ watchers_same watchers v w same told p = told p ∙ sym (same (cells.Watchers p)
 
 pub watches_same : (watchers : Watchers) (v w : Contents) → Same of_watches v w → AreWatches watchers v → AreWatches watchers w
 watches_same watchers v w same told ref = told ref ∙ sym (same (cells.Watch ref) refl)
+
+pub guards_same : (guards : Guards) (v w : Contents) → Same of_guards v w → AreGuards guards v → AreGuards guards w
+guards_same guards v w same told ref = told ref ∙ sym (same (cells.Guard ref) refl)
 
 pub holders_same : (names : Names) (v w : Contents) → Same of_names v w → AreHolders names v → AreHolders names w
 holders_same names v w same told name = told name ∙ sym (same (cells.Holder name) refl)

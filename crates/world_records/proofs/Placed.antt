@@ -12,7 +12,9 @@ use Rattle.world_model.specs.Rows.{under}
 use Rattle.ets_rules.specs.Tables as tables
 use Rattle.ets_rules.specs.Tables.{Hold}
 use Rattle.ets_rules.specs.declared.tables.Tables.{Tables}
+use Rattle.proc_links.specs.Guards as guards
 use Rattle.proc_links.specs.Links.{partners_in}
+use Rattle.proc_links.specs.declared.guards.Guards.{Guards}
 use Rattle.proc_links.specs.declared.links.Links.{Links}
 use Rattle.proc_links.specs.declared.names.Names.{Names}
 use Rattle.proc_links.specs.declared.watchers.Watchers.{Watchers}
@@ -40,7 +42,7 @@ IsSameAt (at.Course p) old new = (module_of new.processes ≡ module_of old.proc
 IsSameAt (at.Inbox p) old new = (lives_in new.processes p ≡ lives_in old.processes p) × (traps_in new.processes p ≡ traps_in old.processes p) × (messages_in new.mailboxes p ≡ messages_in old.mailboxes p)
 IsSameAt (at.Channel s r) old new = between new.channels s r ≡ between old.channels s r
 IsSameAt at.Links old new = (p : Pid) → partners_in new.links p ≡ partners_in old.links p
-IsSameAt at.Watches old new = watchers.IsUnchanged old.watchers new.watchers
+IsSameAt at.Watches old new = watchers.IsUnchanged old.watchers new.watchers × guards.IsUnchanged old.guards new.guards
 IsSameAt at.Names old new = names.IsUnchanged old.names new.names
 IsSameAt at.Tables old new = tables.IsUnchanged old.tables new.tables
 
@@ -74,15 +76,15 @@ moves m (at.Inbox p) old new v same told = record {
 }
 moves m (at.Channel s r) old new v same told = record { waiting = same ∙ told.waiting; counted = told.counted }
 moves m at.Links old new v same told = λ p. same p ∙ told p
-moves m at.Watches old new v same told = (λ p. same.watchers p ∙ told.0 p, λ ref. same.watches ref ∙ told.1 ref)
+moves m at.Watches old new v same told = (λ p. same.0.watchers p ∙ told.0 p, λ ref. same.0.watches ref ∙ told.1 ref, λ ref. same.1 ref ∙ told.2 ref)
 moves m at.Names old new v same told = (λ n. same.holders n ∙ told.0 n, λ p. same.names p ∙ told.1 p)
 moves m at.Tables old new v same told = tables_move old.tables new.tables v same told
 
 -- ---- copies
 
 pub alike_at : (old new : Records) → IsUnchanged old.processes new.processes → mailboxes.IsUnchanged old.mailboxes new.mailboxes → new.channels ≡ old.channels → ((p : Pid) → partners_in new.links p ≡ partners_in old.links p)
-    → watchers.IsUnchanged old.watchers new.watchers → names.IsUnchanged old.names new.names → tables.IsUnchanged old.tables new.tables → AreAlikeAt old new
-alike_at old new ps boxes signals links watches named ts = record {
+    → watchers.IsUnchanged old.watchers new.watchers → guards.IsUnchanged old.guards new.guards → names.IsUnchanged old.names new.names → tables.IsUnchanged old.tables new.tables → AreAlikeAt old new
+alike_at old new ps boxes signals links watches guarded named ts = record {
   of_one = ps.program;
   places = λ m q v told. moves m q old new v (same q) told;
 }
@@ -92,7 +94,7 @@ alike_at old new ps boxes signals links watches named ts = record {
     same (at.Inbox p) = (ps.alive p, ps.trap p, boxes p)
     same (at.Channel s r) = ap (λ c. between c s r) signals
     same at.Links = links
-    same at.Watches = watches
+    same at.Watches = (watches, guarded)
     same at.Names = named
     same at.Tables = ts
 
@@ -110,7 +112,7 @@ same_self (at.Course p) records = (refl, refl)
 same_self (at.Inbox p) records = (refl, refl, refl)
 same_self (at.Channel s r) records = refl
 same_self at.Links records = λ p. refl
-same_self at.Watches records = record { watchers = λ p. refl; watches = λ ref. refl }
+same_self at.Watches records = (record { watchers = λ p. refl; watches = λ ref. refl }, λ ref. refl)
 same_self at.Names records = record { holders = λ n. refl; names = λ p. refl }
 same_self at.Tables records = record { tables = λ t. refl; rows = λ t. refl; names = λ n. refl; owned = λ p. refl }
 
@@ -175,15 +177,15 @@ links_taken other old links took = takes at.Links other old (record old { links 
     same at.Names = same_self at.Names old
     same at.Tables = same_self at.Tables old
 
-pub watches_taken : (other old : Records) (watches : Watchers) → watchers.IsUnchanged other.watchers watches → TakesPlace at.Watches other old (record old { watchers = watches })
-watches_taken other old watches took = takes at.Watches other old (record old { watchers = watches }) refl same
+pub watches_taken : (other old : Records) (watches : Watchers) (guarded : Guards) → watchers.IsUnchanged other.watchers watches → guards.IsUnchanged other.guards guarded → TakesPlace at.Watches other old (record old { watchers = watches; guards = guarded })
+watches_taken other old watches guarded took also = takes at.Watches other old (record old { watchers = watches; guards = guarded }) refl same
   where
-    same : (q : place.Place) → IsSameAt q (if same_place at.Watches q then other else old) (record old { watchers = watches })
+    same : (q : place.Place) → IsSameAt q (if same_place at.Watches q then other else old) (record old { watchers = watches; guards = guarded })
     same (at.Course q) = (refl, refl)
     same (at.Inbox q) = (refl, refl, refl)
     same (at.Channel s r) = refl
     same at.Links = same_self at.Links old
-    same at.Watches = took
+    same at.Watches = (took, also)
     same at.Names = same_self at.Names old
     same at.Tables = same_self at.Tables old
 
@@ -263,6 +265,11 @@ place_as here form other old new is took = subst (λ k. TakesPlace k other old n
 pub taken_as : {E T P : Type 0} (r : Result T E) (here form : place.Place) (other old new : Records) → here ≡ form → (P → AreOfOne old other → TakesPlace form other old new) → OnOk r P → OnOk r (AreOfOne old other → TakesPlace here other old new)
 taken_as (Ok x) here form other old new is takes_it took = λ one. place_as here form other old new is (takes_it took one)
 taken_as (Err e) here form other old new is takes_it took = tt
+
+-- and that is taken over whole
+pub placed_as : {E T : Type 0} (r : Result T E) (here form : place.Place) (other old new : Records) → here ≡ form → OnOk r (TakesPlace form other old new) → OnOk r (AreOfOne old other → TakesPlace here other old new)
+placed_as (Ok x) here form other old new is took = λ one. place_as here form other old new is took
+placed_as (Err e) here form other old new is took = tt
 
 -- and at which records are compared
 pub too_as : (here form : place.Place) (one other : Records) → here ≡ form → AgreesTooAt form one other → AgreesTooAt here one other

@@ -12,7 +12,7 @@ use Rattle.world_records.specs.declared.cell.ChannelPart.TheVariants.{Front, Tai
 use Rattle.world_records.specs.declared.cell.NamePart.{NamePart}
 use Rattle.world_records.specs.declared.cell.NamePart.TheVariants.{Holder, TableName}
 use Rattle.world_records.specs.declared.cell.ReferencePart.{ReferencePart}
-use Rattle.world_records.specs.declared.cell.ReferencePart.TheVariants.{Watch, Table}
+use Rattle.world_records.specs.declared.cell.ReferencePart.TheVariants.{Watch, Guard, Table}
 
 abbrev pub process_cell : ProcessPart → Pid → cells.Cell
 process_cell Machine p = cells.Machine p
@@ -35,6 +35,7 @@ name_cell TableName name = cells.TableName name
 
 abbrev pub reference_cell : ReferencePart → Ref → cells.Cell
 reference_cell Watch ref = cells.Watch ref
+reference_cell Guard ref = cells.Guard ref
 reference_cell Table ref = cells.Table ref
 
 -- the cell of the explored world that it is

@@ -3,6 +3,7 @@ use Rattle.std.specs.List.{list_any}
 use Rattle.std.specs.Prelude.{◌≡◌, List, [], ◌∷◌, ◌++◌, true}
 use Rattle.ets_rules.specs.Changes as tables
 use Rattle.ets_rules.specs.Changes.{changes_of_tables}
+use Rattle.proc_links.specs.Guards.{guard_of}
 use Rattle.proc_links.specs.Process.{are_trapped}
 use Rattle.proc_signals.specs.Signal.{signal_of}
 use Rattle.term_core.specs.Term.{meaning_of}
@@ -16,7 +17,7 @@ use Rattle.world_model.specs.Requests.{Spawned}
 use Rattle.world_model.specs.Signals.{pair_goes}
 use Rattle.world_records.specs.Cells.{cell_in}
 use Rattle.world_records.specs.declared.change.Change.{Change}
-use Rattle.world_records.specs.declared.change.Change.TheVariants.{ProcessStarted, ProcessEnded, TrapSet, MessageAdded, MessageTaken, SignalPut, LinkAdded, LinkRemoved, WatchSet, WatchCleared, NameRegistered, NameUnregistered, NameCleared, OfTables, CellTouched}
+use Rattle.world_records.specs.declared.change.Change.TheVariants.{ProcessStarted, ProcessEnded, TrapSet, MessageAdded, MessageTaken, SignalPut, LinkAdded, LinkRemoved, WatchSet, WatchCleared, GuardSet, GuardCleared, GuardUnwatched, NameRegistered, NameUnregistered, NameCleared, OfTables, CellTouched}
 
 -- the changes of the explored world that a change means
 abbrev pub changes_in : Change → List changes.Change
@@ -30,6 +31,9 @@ changes_in (LinkAdded p q) = pair_begins p q
 changes_in (LinkRemoved p q) = pair_goes p q
 changes_in (WatchSet id target) = watch_begins (ref_of id) target
 changes_in (WatchCleared id target) = changes.WatchCleared (ref_of id) ∷ changes.WatcherRemoved target (ref_of id) ∷ []
+changes_in (GuardSet id guard) = changes.GuardSet (ref_of id) (guard_of guard) ∷ []
+changes_in (GuardCleared id) = changes.GuardCleared (ref_of id) ∷ []
+changes_in (GuardUnwatched id) = changes.GuardUnwatched (ref_of id) ∷ []
 changes_in (NameRegistered name p) = changes.HolderSet name p ∷ changes.NameSet p name ∷ []
 changes_in (NameUnregistered name p) = changes.HolderCleared name ∷ changes.NameCleared p ∷ []
 changes_in (NameCleared p) = changes.NameCleared p ∷ []

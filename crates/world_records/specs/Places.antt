@@ -2,6 +2,7 @@
 use Rattle.std.specs.Prelude.{◌≡◌, ◌&&◌, Bool, true, false, if◌then◌else◌, is_some}
 use Rattle.core_tree.specs.Syntax.{ModuleTree}
 use Rattle.ets_rules.specs.Tables.{Hold}
+use Rattle.proc_links.specs.Guards.{AreGuards}
 use Rattle.proc_links.specs.Links.{AreLinks}
 use Rattle.proc_links.specs.Names.{AreHolders, AreBorne}
 use Rattle.proc_links.specs.Watchers.{AreWatchers, AreWatches}
@@ -40,6 +41,7 @@ place_of (cells.Tail s r) = Channel s r
 place_of (cells.Links p) = Links
 place_of (cells.Watchers p) = Watches
 place_of (cells.Watch ref) = Watches
+place_of (cells.Guard ref) = Watches
 place_of (cells.Holder name) = Names
 place_of (cells.NameOf p) = Names
 place_of (cells.TableName name) = Tables
@@ -69,7 +71,7 @@ AgreesAt m (Course p) records v = IsCourse m records.processes p v
 AgreesAt m (Inbox p) records v = IsInbox records p v
 AgreesAt m (Channel s r) records v = AreWaiting (between records.channels s r) (v (cells.Front s r)) (v (cells.Tail s r))
 AgreesAt m Links records v = AreLinks records.links v
-AgreesAt m Watches records v = AreWatchers records.watchers v × AreWatches records.watchers v
+AgreesAt m Watches records v = AreWatchers records.watchers v × AreWatches records.watchers v × AreGuards records.guards v
 AgreesAt m Names records v = AreHolders records.names v × AreBorne records.names v
 AgreesAt m Tables records v = Hold records.tables v
 

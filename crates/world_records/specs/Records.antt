@@ -8,12 +8,14 @@ use Rattle.world_model.specs.Mailboxes.{mailbox_in, selected_of}
 use Rattle.world_model.specs.Names.{Pid}
 use Rattle.proc_mailboxes.specs.Mailboxes.{AreMailboxes, Mailboxes}
 use Rattle.proc_signals.specs.Channels.{AreChannels, Senders}
+use Rattle.proc_links.specs.Guards.{AreGuards}
 use Rattle.proc_links.specs.Links.{AreLinks}
 use Rattle.proc_links.specs.Names.{AreHolders, AreBorne}
 use Rattle.proc_links.specs.Watchers.{AreWatchers, AreWatches}
 use Rattle.proc_machines.specs.Processes as processes
 use Rattle.ets_rules.specs.Tables.{Hold}
 use Rattle.proc_machines.specs.declared.processes.Processes.{Processes}
+use Rattle.proc_links.specs.declared.guards.Guards.{Guards}
 use Rattle.proc_links.specs.declared.links.Links.{Links}
 use Rattle.proc_links.specs.declared.watchers.Watchers.{Watchers}
 use Rattle.proc_links.specs.declared.names.Names.{Names}
@@ -36,6 +38,9 @@ links_of records = records.links
 abbrev pub watchers_of : Records → Watchers
 watchers_of records = records.watchers
 
+abbrev pub guards_of : Records → Guards
+guards_of records = records.guards
+
 abbrev pub names_of : Records → Names
 names_of records = records.names
 
@@ -50,6 +55,7 @@ pub record Agrees (m : ModuleTree) (records : Records) (v : Contents) : Type 0 w
   pub links_are : AreLinks records.links v
   pub watchers_are : AreWatchers records.watchers v
   pub watches_are : AreWatches records.watchers v
+  pub guards_are : AreGuards records.guards v
   pub holders_are : AreHolders records.names v
   pub borne_are : AreBorne records.names v
   pub tables_are : Hold records.tables v

@@ -3,11 +3,11 @@ ghost use Rattle.std.specs.Prelude.{◌≡◌, ◌∷◌, [], OnOk};
 ghost use Rattle.proc_links.specs.Process.{are_trapped};
 ghost use Rattle.world_model.specs.Changes.{TrapSet};
 ghost use Rattle.world_records.specs.Records.{Follows};
-ghost use Rattle.world_records.specs.declared.change.Change.TheVariants.{ProcessStarted, ProcessEnded, MessageAdded, MessageTaken, SignalPut, WatchCleared, NameRegistered, NameUnregistered, NameCleared};
+ghost use Rattle.world_records.specs.declared.change.Change.TheVariants.{ProcessStarted, ProcessEnded, MessageAdded, MessageTaken, SignalPut, WatchCleared, GuardSet, GuardCleared, GuardUnwatched, NameRegistered, NameUnregistered, NameCleared};
 ghost use Rattle.world_records.specs.inside.Applied.{Applies};
 
 use crate::records::Records;
-use proc_links::Exits;
+use proc_links::{Exits, Guard};
 use proc_signals::Signal;
 use std::alloc::{AllocError, Global};
 use term_core::{Atom, Pid, RefId, Term, Terms};
@@ -92,6 +92,30 @@ impl<'m> Records<'m> {
         ensures { OnOk result (Applies (WatchCleared id.now target.now) self.old self.new) }
     {
         self.watchers.unwatch(id, target)?;
+        Ok(())
+    }
+
+    /// A reference has a copy of this guard.
+    pub(crate) fn guard(&mut self, id: &RefId, guard: &Guard) -> Result<(), AllocError>
+        ensures { OnOk result (Applies (GuardSet id.now guard.now) self.old self.new) }
+    {
+        self.guards.set(id, guard.copy()?)?;
+        Ok(())
+    }
+
+    /// A reference has no guard.
+    pub(crate) fn unguard(&mut self, id: &RefId) -> Result<(), AllocError>
+        ensures { OnOk result (Applies (GuardCleared id.now) self.old self.new) }
+    {
+        self.guards.clear(id)?;
+        Ok(())
+    }
+
+    /// The watch of a reference ends, and with it an alias that was made so.
+    pub(crate) fn end_watched(&mut self, id: &RefId) -> Result<(), AllocError>
+        ensures { OnOk result (Applies (GuardUnwatched id.now) self.old self.new) }
+    {
+        self.guards.unwatch(id)?;
         Ok(())
     }
 

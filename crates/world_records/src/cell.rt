@@ -48,6 +48,8 @@ pub enum NamePart {
 pub enum ReferencePart {
     /// The process that it watches.
     Watch,
+    /// What lets messages in that are sent to it.
+    Guard,
     /// The table of its creation, without its rows.
     Table,
 }

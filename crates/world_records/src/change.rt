@@ -1,7 +1,7 @@
 // What an event changes in the records of a world, as values (Erlang reference manual, "Processes").
 use crate::cell::Cell;
 use ets_rules::TableChange;
-use proc_links::Exits;
+use proc_links::{Exits, Guard};
 use proc_signals::Signal;
 use term_core::{Atom, Pid, RefId, Term, Terms};
 
@@ -37,6 +37,12 @@ pub enum Change {
     WatchSet(RefId, Pid),
     /// A reference no longer watches a process.
     WatchCleared(RefId, Pid),
+    /// A reference has a guard, as an alias or a timer begins.
+    GuardSet(RefId, Guard),
+    /// A reference has no guard.
+    GuardCleared(RefId),
+    /// The watch of a reference ends, and with it an alias that was made so.
+    GuardUnwatched(RefId),
     /// A process gets a name.
     NameRegistered(Atom, Pid),
     /// A name is taken from the process that has it.

@@ -2,7 +2,7 @@
 ghost use Rattle.std.specs.Prelude.{◌≡◌, true, IfOk, OnOk};
 ghost use Rattle.core_tree.specs.Syntax.{ModuleTree};
 ghost use Rattle.world_model.specs.Cells.{Contents};
-ghost use Rattle.world_records.specs.declared.place.Place.TheVariants.{Inbox};
+ghost use Rattle.world_records.specs.declared.place.Place.TheVariants.{Inbox, Watches};
 ghost use Rattle.world_records.specs.Places.{AgreesTooAt, AreOfOne, TakesPlace, same_place};
 
 use crate::records::Records;
@@ -21,7 +21,7 @@ pub enum Place {
     Channel(Pid, Pid),
     /// All links.
     Links,
-    /// All watches.
+    /// All watches, and what lets messages in that are sent to references.
     Watches,
     /// The names of all processes.
     Names,
@@ -78,10 +78,7 @@ impl<'m> Records<'m> {
                 self.links = other.links.copy()?;
                 Ok(())
             }
-            Place::Watches => {
-                self.watchers = other.watchers.copy()?;
-                Ok(())
-            }
+            Place::Watches => self.take_watches(other),
             Place::Names => {
                 self.names = other.names.copy()?;
                 Ok(())
@@ -101,6 +98,15 @@ impl<'m> Records<'m> {
         self.mailboxes.take_from(pid, &other.mailboxes)
     }
 
+    // Takes over all watches, and what lets messages in that are sent to references.
+    fn take_watches(&mut self, other: &Records<'m>) -> Result<(), AllocError>
+        ensures { OnOk result (TakesPlace Watches other.now self.old self.new) }
+    {
+        self.watchers = other.watchers.copy()?;
+        self.guards = other.guards.copy()?;
+        Ok(())
+    }
+
     /// Whether the two are the same at one place: where it is so, and both are of one module, these agree there with all that
     /// the others agree with. It takes no memory.
     pub fn is_same_at(&self, place: &Place, other: &Records<'_>) -> bool
@@ -111,7 +117,7 @@ impl<'m> Records<'m> {
             Place::Inbox(pid) => self.is_same_inbox(pid, other),
             Place::Channel(from, to) => self.channels.is_same_between(from, to, &other.channels),
             Place::Links => self.links.is_same(&other.links),
-            Place::Watches => self.watchers.is_same(&other.watchers),
+            Place::Watches => self.is_same_watched(other),
             Place::Names => self.names.is_same(&other.names),
             Place::Tables => self.tables.is_same(&other.tables),
         }
@@ -127,6 +133,16 @@ impl<'m> Records<'m> {
         self.mailboxes.is_same_at(pid, &other.mailboxes)
     }
 
+    // Whether each reference watches the same process in both, and has the same guard.
+    fn is_same_watched(&self, other: &Records<'_>) -> bool
+        ensures { result ≡ true → AgreesTooAt Watches self.now other.now }
+    {
+        if !self.watchers.is_same(&other.watchers) {
+            return false;
+        }
+        self.guards.is_same(&other.guards)
+    }
+
     /// A number by which a search finds records that may be the same at one place: those that are have the same. It takes
     /// no memory.
     pub fn digest_at(&self, place: &Place) -> u64 {
@@ -139,7 +155,10 @@ impl<'m> Records<'m> {
             }
             Place::Channel(from, to) => self.channels.feed_between(from, to, &mut hasher),
             Place::Links => self.links.feed(&mut hasher),
-            Place::Watches => self.watchers.feed(&mut hasher),
+            Place::Watches => {
+                self.watchers.feed(&mut hasher);
+                self.guards.feed(&mut hasher);
+            }
             Place::Names => self.names.feed(&mut hasher),
             Place::Tables => self.tables.feed(&mut hasher),
         }

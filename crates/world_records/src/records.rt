@@ -2,24 +2,25 @@
 ghost use Rattle.std.specs.Prelude.{◌≡◌, IfOk};
 ghost use Rattle.world_model.specs.World.{beginning};
 ghost use Rattle.world_records.specs.Places.{AreAlikeAt};
-ghost use Rattle.world_records.specs.Records.{Agrees, AreAlike, channels_of, links_of, mailboxes_of, names_of, processes_of, tables_of, watchers_of};
+ghost use Rattle.world_records.specs.Records.{Agrees, AreAlike, channels_of, guards_of, links_of, mailboxes_of, names_of, processes_of, tables_of, watchers_of};
 
 use core_tree::Module;
 use ets_rules::Tables;
-use proc_links::{Links, Names, Watchers};
+use proc_links::{Guards, Links, Names, Watchers};
 use proc_machines::Processes;
 use proc_mailboxes::Mailboxes;
 use proc_signals::Channels;
 use std::alloc::{AllocError, Global};
 
-/// The parts of a world: its processes, what each has in its mailbox, the signals on their way, links, watches and
-/// names, and the tables. Copies share all of it until one of them is changed.
+/// The parts of a world: its processes, what each has in its mailbox, the signals on their way, links, watches, what
+/// guards references, names, and the tables. Copies share all of it until one of them is changed.
 pub struct Records<'m> {
     pub(crate) processes: Processes<'m>,
     pub(crate) mailboxes: Mailboxes,
     pub(crate) channels: Channels,
     pub(crate) links: Links,
     pub(crate) watchers: Watchers,
+    pub(crate) guards: Guards,
     pub(crate) names: Names,
     pub(crate) tables: Tables,
 }
@@ -33,6 +34,7 @@ impl Drop for Records<'_> {
             channels: _,
             links: _,
             watchers: _,
+            guards: _,
             names: _,
             tables: _,
         } = self;
@@ -51,6 +53,7 @@ impl<'m> Records<'m> {
             channels: Channels::new(alloc)?,
             links: Links::new(alloc)?,
             watchers: Watchers::new(alloc)?,
+            guards: Guards::new(alloc)?,
             names: Names::new(alloc)?,
             tables: Tables::new(alloc)?,
         })
@@ -68,6 +71,7 @@ impl<'m> Records<'m> {
             channels: self.channels.copy()?,
             links: self.links.copy()?,
             watchers: self.watchers.copy()?,
+            guards: self.guards.copy()?,
             names: self.names.copy()?,
             tables: self.tables.copy()?,
         })
@@ -106,6 +110,13 @@ impl<'m> Records<'m> {
         ensures { result.now ≡ watchers_of self.now }
     {
         &self.watchers
+    }
+
+    /// What lets messages in that are sent to references. It takes no memory.
+    pub fn guards(&self) -> &Guards
+        ensures { result.now ≡ guards_of self.now }
+    {
+        &self.guards
     }
 
     /// The names of processes. It takes no memory.

@@ -10,7 +10,7 @@ use Rattle.core_tree.specs.inside.AlikeLaws.{Bears, equivalent}
 use Rattle.term_core.proofs.Equality.{reference_ids_same, terms_same}
 use Rattle.term_core.specs.inside.OrderLaws.{terms_total}
 use Rattle.term_core.specs.inside.StepOrderLaws.{reference_ids_total}
-use Rattle.world_model.specs.Events.{Signal, Message, Exit, LinkExit, Down}
+use Rattle.world_model.specs.Events.{Signal, Message, Exit, LinkExit, Down, Guarded, Elapsed}
 use Rattle.world_model.specs.Names.{same_term}
 use Rattle.proc_signals.specs.Alike.{same_id, same_signal}
 
@@ -22,6 +22,14 @@ signal_told (Down r m) (Down s n) e =
     let p = and_parts (same_id r s) (same_term m n) e in
     let at : (r.pid, r.number) ≡ (s.pid, s.number) = (reference_ids_same (r.pid, r.number) (s.pid, s.number) _ refl).0 p.0 in
     λ i. Down (record { pid = (at i).0; number = (at i).1 }) ((terms_same m n _ refl).0 p.1 i)
+signal_told (Guarded r m) (Guarded s n) e =
+    let p = and_parts (same_id r s) (same_term m n) e in
+    let at : (r.pid, r.number) ≡ (s.pid, s.number) = (reference_ids_same (r.pid, r.number) (s.pid, s.number) _ refl).0 p.0 in
+    λ i. Guarded (record { pid = (at i).0; number = (at i).1 }) ((terms_same m n _ refl).0 p.1 i)
+signal_told (Elapsed r m) (Elapsed s n) e =
+    let p = and_parts (same_id r s) (same_term m n) e in
+    let at : (r.pid, r.number) ≡ (s.pid, s.number) = (reference_ids_same (r.pid, r.number) (s.pid, s.number) _ refl).0 p.0 in
+    λ i. Elapsed (record { pid = (at i).0; number = (at i).1 }) ((terms_same m n _ refl).0 p.1 i)
 signal_told a b e = cc
 
 signal_itself : (a : Signal) → same_signal a a ≡ true
@@ -29,6 +37,8 @@ signal_itself (Message m) = ap is_eq (tied_itself terms_total m)
 signal_itself (Exit m) = ap is_eq (tied_itself terms_total m)
 signal_itself (LinkExit m) = ap is_eq (tied_itself terms_total m)
 signal_itself (Down r m) = and_from _ _ (ap is_eq (tied_itself reference_ids_total (r.pid, r.number))) (ap is_eq (tied_itself terms_total m))
+signal_itself (Guarded r m) = and_from _ _ (ap is_eq (tied_itself reference_ids_total (r.pid, r.number))) (ap is_eq (tied_itself terms_total m))
+signal_itself (Elapsed r m) = and_from _ _ (ap is_eq (tied_itself reference_ids_total (r.pid, r.number))) (ap is_eq (tied_itself terms_total m))
 
 abbrev itself_of : Signal → Signal
 itself_of x = x

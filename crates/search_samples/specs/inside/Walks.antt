@@ -4,7 +4,7 @@ use Rattle.std.specs.Prelude.{◌≡◌, ◌≤◌, ◌↔◌, ◌⊎◌, ◌+�
 use Rattle.search_samples.specs.Samples.{AreOfSamples, Begins}
 use Rattle.term_core.specs.declared.step.Step.{Step}
 use Rattle.tree_coverage.specs.Findings.{Findings, findings_among}
-use Rattle.tree_schedules.specs.Deliveries.{DeliversBy, first_or_all, is_delivery, steps_by}
+use Rattle.tree_schedules.specs.Deliveries.{DeliversBy, first_or_all, is_at_once, steps_by}
 use Rattle.tree_schedules.specs.declared.delivery.Delivery.{Delivery}
 use Rattle.tree_schedules.specs.declared.delivery.Delivery.TheVariants.{AnyTime, AtOnce}
 use Rattle.world_model.specs.Events.{History}
@@ -13,10 +13,10 @@ use Rattle.world_model.specs.Requests.{Program}
 use Rattle.world_model.specs.Run.{run}
 use Rattle.world_model.specs.Shown.{Flags}
 
--- those of the enabled steps that may be taken
-abbrev pub allowed : Delivery → List Step → List Step
-allowed AnyTime steps = steps
-allowed AtOnce steps = first_or_all (filter is_delivery steps) steps
+-- those of the enabled steps that may be taken after a history
+abbrev pub allowed : Delivery → History → List Step → List Step
+allowed AnyTime h steps = steps
+allowed AtOnce h steps = first_or_all (filter (is_at_once h) steps) steps
 
 -- a schedule was followed to here, and what each beginning of it shows was added to what had been found
 pub record IsFollowed (flags : Flags) (d : Delivery) (a : Program) (s : List Step) (h : History) (old new : Findings) : Type 0 where

@@ -7,7 +7,7 @@ use Rattle.world_records.specs.declared.cell.ChannelPart.TheVariants.{Front, Tai
 use Rattle.world_records.specs.declared.cell.NamePart.{NamePart}
 use Rattle.world_records.specs.declared.cell.NamePart.TheVariants.{Holder, TableName}
 use Rattle.world_records.specs.declared.cell.ReferencePart.{ReferencePart}
-use Rattle.world_records.specs.declared.cell.ReferencePart.TheVariants.{Watch, Table}
+use Rattle.world_records.specs.declared.cell.ReferencePart.TheVariants.{Watch, Guard, Table}
 
 abbrev pub place_of_process : ProcessPart → ℕ
 place_of_process Machine = 0
@@ -31,3 +31,4 @@ place_of_name TableName = 1
 abbrev pub place_of_reference : ReferencePart → ℕ
 place_of_reference Watch = 0
 place_of_reference Table = 1
+place_of_reference Guard = 2

@@ -1,5 +1,6 @@
 // Small modules, and what happens by their schedules.
 ghost use Rattle.world_model.specs.BondExamples.{RunawayIsTold, UnlinkedIsDropped, UnlinkedIsNotTold, FormerHolderFreesNoName, FormerOwnerDestroysNoTable, LateLinkIsTold, LateWatchIsTold, UnwatchedIsNotTold, UnwatchedIsDropped, FlushTakesTheMessage, MessageStays, SendsToItself, EndsByItsExit, TrapsItsExit, ReferenceIsMade, LaterHeirInherits};
+ghost use Rattle.world_model.specs.GuardExamples.{AnswerIsLetIn, LateAnswerIsDropped, ExplicitAliasStays, UnaliasedIsDropped, SecondReplyIsDropped, BothAreLetIn, ReplyEndsTheWatch, NoAliasTakesNothing, OwnAliasTakesIt, OwnAliasMayEndBefore, OwnWatchHasNoAlias, TimerComes, CancelledIsDropped, CancelTellsTheTime, LateCancelIsFalse, ReadTellsTheTime};
 ghost use Rattle.world_model.specs.ShownExamples.{RefusalIsShown, RefusalIsListed, RefusalIsNoError, RefusalIsErrorIfStrict, EndIsError, NormalEndShowsNothing, UnreadIsShown, UnreadIsNoError, UnreadIsErrorIfIdle, UnreadIsNoRefusal, TakenIsNotUnread, IdleHasNone, FirstWaitsToo};
 ghost use Rattle.world_model.specs.ReceiveExamples.{SecondIsHeard, WaitsForIts, TakesItsFirst, TakesTheOther, TakesTheOlder, ComesToTimeout, ComesToMessage};
 ghost use Rattle.world_model.specs.TableExamples.{WritesItsTable, HasNoNinth, StrangerIsRefused, StrangerFindsNone, StrangerEnds, OldOwnerIsRefused, HeirIsTold, HeirWrites, HeirTimesOut, NoHeirNoTable, PresentOwnerCounts, PrivateIsUnread, StrangerBeforeObject, OwnerOfShort, OwnersCall, InfoOfNone, ItemIsUnknown, GiftToItself};
@@ -176,4 +177,32 @@ pub fn calls_to_oneself_take_effect()
 #[tactic(auto, unfolding(crate::specs::World::contents))]
 pub fn later_heirs_inherit()
     ensures { LaterHeirInherits }
+{}
+
+/// A message by an alias is let in while the alias stands: one that was made with a watch ends with it, unless it ends by
+/// `unalias` alone, and one that a reply ends takes its watch along. What is no alias lets nothing in. An alias of one's own
+/// may end before its message comes, and with a watch of oneself none begins.
+#[tactic(auto, unfolding(crate::specs::World::contents))]
+pub fn aliases_let_in()
+    ensures answer { AnswerIsLetIn }
+    ensures late { LateAnswerIsDropped }
+    ensures explicit { ExplicitAliasStays }
+    ensures unaliased { UnaliasedIsDropped }
+    ensures second { SecondReplyIsDropped }
+    ensures both { BothAreLetIn }
+    ensures watch { ReplyEndsTheWatch }
+    ensures none { NoAliasTakesNothing }
+    ensures own { OwnAliasTakesIt }
+    ensures before { OwnAliasMayEndBefore }
+    ensures none_of_own { OwnWatchHasNoAlias }
+{}
+
+/// The message of a timer comes where the timer was not cancelled before, and a timer says its time until then.
+#[tactic(auto, unfolding(crate::specs::World::contents))]
+pub fn timers_end()
+    ensures comes { TimerComes }
+    ensures cancelled { CancelledIsDropped }
+    ensures time { CancelTellsTheTime }
+    ensures late { LateCancelIsFalse }
+    ensures read { ReadTellsTheTime }
 {}

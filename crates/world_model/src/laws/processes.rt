@@ -1,5 +1,5 @@
 // The laws of processes: what is so after an event, by what was so before it.
-ghost use Rattle.world_model.specs.Bonds.{LinkedIsTold, WatchedIsTold, HolderIsTold};
+ghost use Rattle.world_model.specs.Bonds.{LinkedIsTold, WatchedIsTold, GuardedIsTold, HolderIsTold};
 ghost use Rattle.world_model.specs.Mail.{MailboxIsTold, WaitingIsTold};
 ghost use Rattle.world_model.specs.Posted.{PutsAreTold};
 ghost use Rattle.world_model.specs.ProcessHistory.{AliveIsTold, TurnsAreTold, AnswersAreTold, TrapsAreTold};
@@ -20,10 +20,12 @@ pub fn flags_are_told()
     ensures { TrapsAreTold }
 {}
 
-/// Which processes are linked, which process a watch is for and who holds a name: by the latest event about it.
+/// Which processes are linked, which process a watch is for, what guards a reference and who holds a name: by the latest
+/// event about it.
 pub fn bonds_are_told()
     ensures linked { LinkedIsTold }
     ensures watched { WatchedIsTold }
+    ensures guarded { GuardedIsTold }
     ensures holder { HolderIsTold }
 {}
 

@@ -17,3 +17,11 @@ returns-clause-refusal c = refl
 pub returns-clause-kill : goal.returns-clause-kill
 unfolding digits
 returns-clause-kill c = refl
+
+pub returns-clause-alias : goal.returns-clause-alias
+unfolding digits
+returns-clause-alias c = refl
+
+pub returns-clause-timer : goal.returns-clause-timer
+unfolding digits
+returns-clause-timer c = refl

@@ -24,6 +24,7 @@ steps-init c =
           subst (λ (s : List Step). IsFollowed flags d (program_of m) s world.history c.args.findings.now c.visit.new.findings) (sym c.new-schedule.ensures.items)
           (starts flags d m world c.args.findings.now c.visit.new.findings c.in_ok-world.ensures c.in_ok-enabled.ensures.adds);
       program = of;
+      lives = c.in_ok-enabled.ensures.lives;
       enabled = c.in_ok-enabled.ensures.enabled ∙ ap (λ (p : ModuleTree). enabled_steps (program_of p) world.history) of;
       short = omega (arith, ap length c.new-schedule.ensures.items);
     }
@@ -37,6 +38,9 @@ returns-in_default-clause-adds c =
     let s = c.steps.schedule.items in
     let h = c.steps.world.history in
     ends (flags_in c.args.samples.now.flags) d a n s h c.args.findings.now c.steps.findings walk.followed (at_an_end d a n s h c.steps.enabled.items walk.short walk.enabled (sym c.as_slice.ensures.value ∙ c.in_default.ensures))
+
+pub drawn-requires : goal.drawn-requires
+drawn-requires c = c.steps.invariant.lives
 
 pub take-requires : goal.take-requires
 take-requires c =
@@ -65,6 +69,7 @@ steps-preserved c =
           (may_be_taken d (program_of m) world.history c.as_slice.result.now x (c.as_slice.ensures.value ∙ walk.enabled) c.in-Some.ensures) c.in_ok-take.ensures.event c.take.ensures.program c.in_ok-take.ensures.schedule
           (subst (λ (t : List Step). AddsSchedule (flags_in c.args.samples.now.flags) t (shown (program_in after) after.history) c.steps.findings c.visit-in-steps.new.findings) c.as_slice-in-steps.ensures.value c.in_ok-enabled-2.ensures.adds);
       program = of;
+      lives = c.in_ok-enabled-2.ensures.lives;
       enabled = c.in_ok-enabled-2.ensures.enabled ∙ ap (λ (p : ModuleTree). enabled_steps (program_of p) after.history) of;
       short = omega (arith, longer, c.steps-test.true);
     }

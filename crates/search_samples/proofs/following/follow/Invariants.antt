@@ -1,4 +1,4 @@
-use Rattle.std.proofs.Common.{◌≡◌, ◌≤◌, ◌-◌, length}
+use Rattle.std.proofs.Common.{◌≡◌, ◌≤◌, ◌-◌, false, length}
 use Rattle.search_samples.specs.inside.Walks.{IsFollowed}
 use Rattle.world_identities.specs.Identities.{flags_in}
 use Rattle.world_model.specs.Asking.{program_of}
@@ -10,6 +10,7 @@ abbrev pub invariant-steps : goal.invariant-steps
 invariant-steps l = record {
   followed : IsFollowed (flags_in l.fn.samples.flags) l.fn.samples.delivery (program_of l.fn.program) l.schedule.items l.world.history l.fn.findings l.findings;
   program : l.world.program ≡ l.fn.program;
+  lives : l.world.spent ≡ false;
   enabled : l.enabled.items ≡ enabled_steps (program_of l.fn.program) l.world.history;
   short : length l.schedule.items ≤ l.fn.samples.depth;
 }

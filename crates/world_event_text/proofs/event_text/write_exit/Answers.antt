@@ -14,16 +14,8 @@ returns-in_err-write_term g c =
     let o1 = owes_less _ _ _ (codes "exit ") _ _ (owes_all _ _) c.in_ok-write_all.ensures.appends in
     breaks_at _ _ _ _ _ _ p.1 (owes_break_in _ _ _ _ _ _ _ o1 c.in_err-write_term.ensures)
 
-pub returns-in_err-write_all-2 : goal.returns-in_err-write_all-2
-returns-in_err-write_all-2 g c =
-    let p = err_from_is_err_and c.from_residual-in_err-write_all-2.result c.from_residual-in_err-write_all-2.ensures.1 in
-    let o1 = owes_less _ _ _ (codes "exit ") _ _ (owes_all _ _) c.in_ok-write_all.ensures.appends in
-    let o2 = owes_less _ _ _ _ _ _ o1 c.in_ok-write_term.ensures.appends in
-    breaks_at _ _ _ _ _ _ p.1 (owes_break_in _ _ _ _ (codes " -> ") _ _ o2 c.in_err-write_all-2.ensures)
-
 pub returns : goal.returns
 returns g c =
     let o1 = owes_less _ _ _ (codes "exit ") _ _ (owes_all _ _) c.in_ok-write_all.ensures.appends in
     let o2 = owes_less _ _ _ _ _ _ o1 c.in_ok-write_term.ensures.appends in
-    let o3 = owes_less _ _ _ (codes " -> ") _ _ o2 c.in_ok-write_all-2.ensures.appends in
-    writes_last _ _ _ _ _ _ _ o3 c.write_effect.ensures
+    writes_last _ _ _ _ _ _ _ o2 c.write_after_arrow.ensures

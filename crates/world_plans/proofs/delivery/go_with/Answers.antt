@@ -13,5 +13,12 @@ pub returns-in-LinkExit : goal.returns-in-LinkExit
 returns-in-LinkExit c =
     let p = c.args.from.now in
     let q = c.args.to.now in
-    subst (λ (s : Signal). OnOk c.unpair.result ((m : ModuleTree) (v : Contents) → Agrees m c.args.records.now v → Adds (reads_of_fate v p q (signal_of s)) (goes_with p q (signal_of s)) c.args.planned.now c.unpair.new.planned))
+    subst (λ (s : Signal). OnOk c.unpair.result ((m : ModuleTree) (v : Contents) → Agrees m c.args.records.now v → Adds (reads_of_fate v p q (signal_of s)) (goes_with v p q (signal_of s)) c.args.planned.now c.unpair.new.planned))
     (sym c.in-LinkExit.is) c.unpair.ensures
+
+pub returns-in-Guarded : goal.returns-in-Guarded
+returns-in-Guarded c =
+    let p = c.args.from.now in
+    let q = c.args.to.now in
+    subst (λ (s : Signal). OnOk c.pass.result ((m : ModuleTree) (v : Contents) → Agrees m c.args.records.now v → Adds (reads_of_fate v p q (signal_of s)) (goes_with v p q (signal_of s)) c.args.planned.now c.pass.new.planned))
+    (sym c.in-Guarded.is) c.pass.ensures

@@ -12,6 +12,6 @@ returns c = λ m v told kills.
     let s = c.args.from.now in
     let r = c.args.to.now in
     let x = signal_of c.args.signal.now in
-    let w = after (goes_with s r x) v in
+    let w = after (goes_with v s r x) v in
     let dies = adds_as _ _ _ _ _ _ refl (λ i. MachineHalted (c.in_ok-copy.ensures i) (c.in_ok-copy-2.ensures i) ∷ AliveCleared (c.in_ok-copy.ensures i) ∷ []) c.in_ok-change.ensures in
     adds_then _ _ _ _ _ _ _ dies (c.in_ok-leave.ensures w (sees_killed m c.args.records.now c.in_ok-links.links v s r x _ told kills (c.in_ok-links.ensures v (subst (λ l. AreLinks l v) (sym c.links.ensures) told.links_are))))

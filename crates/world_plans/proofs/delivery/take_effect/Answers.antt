@@ -11,5 +11,5 @@ use Rattle.world_plans.proofs.delivery.take_effect.Goals as goal
 pub returns-in-Ends : goal.returns-in-Ends
 returns-in-Ends c = on_ok c.kill.result _ _ (λ adds m v told is.
     let r = c.args.to.now in
-    let w = after (goes_with c.args.from.now r (signal_of c.args.signal.now)) v in
+    let w = after (goes_with v c.args.from.now r (signal_of c.args.signal.now)) v in
     subst (λ e. Adds (reads_if_killed w r (fate_in e)) (changes_of_fate w r (fate_in e)) c.args.planned.now c.kill.new.planned) (sym c.in-Ends.is) (adds m v told (sym is ∙ ap fate_in c.in-Ends.is))) c.kill.ensures

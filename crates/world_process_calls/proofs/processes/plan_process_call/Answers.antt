@@ -43,3 +43,18 @@ returns-in-IsAlive c = subst (λ x. IfOk c.is_alive.result (λ reply. Plans c.ar
 
 pub returns-in-MakeRef : goal.returns-in-MakeRef
 returns-in-MakeRef c = subst (λ x. IfOk c.make_ref.result (λ reply. Plans c.args.caller.now (call_in x) c.args.records.now reply c.args.planned.now c.make_ref.new.planned)) (sym c.in-MakeRef.is) c.make_ref.ensures
+
+pub returns-in-MakeAlias : goal.returns-in-MakeAlias
+returns-in-MakeAlias c = subst (λ x. IfOk c.make_alias.result (λ reply. Plans c.args.caller.now (call_in x) c.args.records.now reply c.args.planned.now c.make_alias.new.planned)) (sym c.in-MakeAlias.is) c.make_alias.ensures
+
+pub returns-in-Unalias : goal.returns-in-Unalias
+returns-in-Unalias c = subst (λ x. IfOk c.unalias.result (λ reply. Plans c.args.caller.now (call_in x) c.args.records.now reply c.args.planned.now c.unalias.new.planned)) (sym c.in-Unalias.is) c.unalias.ensures
+
+pub returns-in-StartTimer : goal.returns-in-StartTimer
+returns-in-StartTimer c = subst (λ x. IfOk c.start_timer.result (λ reply. Plans c.args.caller.now (call_in x) c.args.records.now reply c.args.planned.now c.start_timer.new.planned)) (sym c.in-StartTimer.is) c.start_timer.ensures
+
+pub returns-in-CancelTimer : goal.returns-in-CancelTimer
+returns-in-CancelTimer c = subst (λ x. IfOk c.cancel_timer.result (λ reply. Plans c.args.caller.now (call_in x) c.args.records.now reply c.args.planned.now c.cancel_timer.new.planned)) (sym c.in-CancelTimer.is) (if_ok c.cancel_timer.result _ _ (λ reply plans. plans c.args.caller.now) c.cancel_timer.ensures)
+
+pub returns-in-ReadTimer : goal.returns-in-ReadTimer
+returns-in-ReadTimer c = subst (λ x. IfOk c.read_timer.result (λ reply. Plans c.args.caller.now (call_in x) c.args.records.now reply c.args.planned.now c.read_timer.new.planned)) (sym c.in-ReadTimer.is) (if_ok c.read_timer.result _ _ (λ reply plans. plans c.args.caller.now) c.read_timer.ensures)

@@ -1,7 +1,7 @@
 use Rattle.std.proofs.Common.{◌≡◌, ◌++◌, drop, map}
 use Rattle.term_core.specs.Term.{meaning_of}
 use Rattle.core_pure_calls.specs.Dictionary.{below}
-use Rattle.core_pure_calls.specs.inside.Entries.{entry_of}
+use Rattle.core_pure_calls.specs.Entries.{entry_of}
 use Rattle.core_pure_calls.proofs.dictionary.Dictionary.below.Given as goal
 
 -- the copies, with the lesser ones of those that are left, are all lesser ones

@@ -1,6 +1,6 @@
 use Rattle.std.proofs.Common.{◌≡◌, ◌++◌, drop, map}
 use Rattle.term_core.specs.Term.{meaning_of}
-use Rattle.core_pure_calls.specs.inside.Entries.{entry_of}
+use Rattle.core_pure_calls.specs.Entries.{entry_of}
 use Rattle.core_pure_calls.proofs.dictionary.Dictionary.keys_of.Given as goal
 
 -- the keys, with those of the entries that are left, are all

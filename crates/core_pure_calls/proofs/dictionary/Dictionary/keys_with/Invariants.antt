@@ -1,7 +1,7 @@
 use Rattle.std.proofs.Common.{◌≡◌, ◌++◌, drop, map}
 use Rattle.term_core.specs.Term.{meaning_of}
 use Rattle.core_pure_calls.specs.Dictionary.{keys_with}
-use Rattle.core_pure_calls.specs.inside.Entries.{entry_of}
+use Rattle.core_pure_calls.specs.Entries.{entry_of}
 use Rattle.core_pure_calls.proofs.dictionary.Dictionary.keys_with.Given as goal
 
 -- the keys, with those of the entries that are left and have the value, are all that have it

@@ -1,7 +1,7 @@
 use Rattle.std.proofs.Common.{◌≡◌, ◌++◌, drop, map}
 use Rattle.term_core.specs.Term.{meaning_of}
 use Rattle.core_pure_calls.specs.Dictionary.{above}
-use Rattle.core_pure_calls.specs.inside.Entries.{entry_of}
+use Rattle.core_pure_calls.specs.Entries.{entry_of}
 use Rattle.core_pure_calls.proofs.dictionary.Dictionary.push_above.Given as goal
 
 -- the entries, with the greater ones of those that are left, are those that were there with all greater ones

@@ -1,7 +1,7 @@
 use Rattle.std.proofs.Common.{◌≡◌, drop, map}
 use Rattle.term_core.specs.Term.{meaning_of}
 use Rattle.core_pure_calls.specs.Dictionary.{value_of}
-use Rattle.core_pure_calls.specs.inside.Entries.{entry_of}
+use Rattle.core_pure_calls.specs.Entries.{entry_of}
 use Rattle.core_pure_calls.proofs.dictionary.Dictionary.value_of.Given as goal
 
 -- the value among the entries that are left

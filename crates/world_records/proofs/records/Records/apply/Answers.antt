@@ -31,6 +31,15 @@ returns-in-WatchSet c = follows_as c.watch.result c.args.change.now _ c.args.sel
 pub returns-in-WatchCleared : goal.returns-in-WatchCleared
 returns-in-WatchCleared c = applies_as c.unwatch.result c.args.change.now _ c.args.self.now c.unwatch.new.self c.in-WatchCleared.is c.unwatch.ensures
 
+pub returns-in-GuardSet : goal.returns-in-GuardSet
+returns-in-GuardSet c = applies_as c.guard.result c.args.change.now _ c.args.self.now c.guard.new.self c.in-GuardSet.is c.guard.ensures
+
+pub returns-in-GuardCleared : goal.returns-in-GuardCleared
+returns-in-GuardCleared c = applies_as c.unguard.result c.args.change.now _ c.args.self.now c.unguard.new.self c.in-GuardCleared.is c.unguard.ensures
+
+pub returns-in-GuardUnwatched : goal.returns-in-GuardUnwatched
+returns-in-GuardUnwatched c = applies_as c.end_watched.result c.args.change.now _ c.args.self.now c.end_watched.new.self c.in-GuardUnwatched.is c.end_watched.ensures
+
 pub returns-in-NameRegistered : goal.returns-in-NameRegistered
 returns-in-NameRegistered c = applies_as c.give_name.result c.args.change.now _ c.args.self.now c.give_name.new.self c.in-NameRegistered.is c.give_name.ensures
 

@@ -15,7 +15,7 @@ pub returns-in-Links : goal.returns-in-Links
 returns-in-Links c = λ e. too_as c.args.place.now Links c.args.self.now c.args.other.now c.in-Links.is (λ m v w old new. c.is_same.ensures.agrees e w new)
 
 pub returns-in-Watches : goal.returns-in-Watches
-returns-in-Watches c = λ e. too_as c.args.place.now Watches c.args.self.now c.args.other.now c.in-Watches.is (λ m v w old new. (c.is_same-in-Watches.ensures.watchers e w new.0, c.is_same-in-Watches.ensures.watches e w new.1))
+returns-in-Watches c = λ e. too_as c.args.place.now Watches c.args.self.now c.args.other.now c.in-Watches.is (c.is_same_watched.ensures e)
 
 pub returns-in-Names : goal.returns-in-Names
 returns-in-Names c = λ e. too_as c.args.place.now Names c.args.self.now c.args.other.now c.in-Names.is (λ m v w old new. (c.is_same-in-Names.ensures.holders e w new.0, c.is_same-in-Names.ensures.names e w new.1))

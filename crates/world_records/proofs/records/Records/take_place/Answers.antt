@@ -1,4 +1,4 @@
-use Rattle.world_records.proofs.Placed.{channel_taken, course_taken, links_taken, names_taken, place_as, tables_taken, taken_as, watches_taken}
+use Rattle.world_records.proofs.Placed.{channel_taken, course_taken, links_taken, names_taken, place_as, tables_taken, taken_as, placed_as}
 use Rattle.world_records.specs.declared.place.Place.TheVariants.{Inbox, Channel, Course, Links, Names, Tables, Watches}
 use Rattle.world_records.proofs.records.Records.take_place.Goals as goal
 
@@ -14,8 +14,8 @@ returns-in-Channel c = taken_as c.take_from.result c.args.place.now (Channel c.i
 pub returns-in_ok-self-in-Links : goal.returns-in_ok-self-in-Links
 returns-in_ok-self-in-Links c = λ one. place_as c.args.place.now Links c.args.other.now c.args.self.now _ c.in-Links.is (links_taken c.args.other.now c.args.self.now c.in_ok-self-in-Links.field-0 c.in_ok-self-in-Links.ensures)
 
-pub returns-in_ok-self-in-Watches : goal.returns-in_ok-self-in-Watches
-returns-in_ok-self-in-Watches c = λ one. place_as c.args.place.now Watches c.args.other.now c.args.self.now _ c.in-Watches.is (watches_taken c.args.other.now c.args.self.now c.in_ok-self-in-Watches.field-0 c.in_ok-self-in-Watches.ensures)
+pub returns-in-Watches : goal.returns-in-Watches
+returns-in-Watches c = placed_as c.take_watches.result c.args.place.now Watches c.args.other.now c.args.self.now _ c.in-Watches.is c.take_watches.ensures
 
 pub returns-in_ok-self-in-Names : goal.returns-in_ok-self-in-Names
 returns-in_ok-self-in-Names c = λ one. place_as c.args.place.now Names c.args.other.now c.args.self.now _ c.in-Names.is (names_taken c.args.other.now c.args.self.now c.in_ok-self-in-Names.field-0 record { holders = c.in_ok-self-in-Names.ensures.holders; names = c.in_ok-self-in-Names.ensures.names })
