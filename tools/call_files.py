@@ -15,9 +15,9 @@ MODULES = {"process": "erlang", "table": "ets", "list": "lists"}
 # where a file of a crate speaks of the pure calls, and where of the others
 PURE, OTHERS = re.compile(r"\bPureCall\b"), re.compile(r"\b(?:CallKind|TableCall|TableRequest|ProcessRequest)\b|\bspecs\.Calls\b")
 KINDS = ("definitions", "proofs", "code", "wrong bodies", "tests", "converter", "documents")
-# what is in a folder of a crate, and what is in one of the others
+# what is in a folder of a crate, and what is in one of the others; two pages are generated, and nobody edits them
 IN_CRATES = {"specs": "definitions", "proofs": "proofs", "src": "code", "wrong": "wrong bodies", "must-fail": "wrong bodies"}
-BESIDE = {"docs": "documents", "erlang/README.md": "documents", "erlang/src": "converter", "erlang/library": "converter", "erlang/tests": "tests"}
+BESIDE = {"docs": "documents", "docs/CONTRACTS.md": None, "docs/RULES.md": None, "erlang/README.md": "documents", "erlang/src": "converter", "erlang/library": "converter", "erlang/tests": "tests"}
 LISTS = "erlang/src/known_calls.erl"
 
 

@@ -13,27 +13,12 @@ import hashlib
 import os
 from pathlib import Path
 
-ROOT = Path(__file__).resolve().parent.parent
+from crate_list import ROOT, below, listed
+
 PROGRAM = "schedule_explorer"
 # how many builds of one kind are kept
 KEPT = 4
 PACKAGES = "apt-get install erlang-base python3"
-
-
-def listed():
-    """The crates of crates.txt, lowest first, each with the libraries that it uses."""
-    lines = (line.split("#")[0] for line in (ROOT / "crates.txt").read_text().splitlines())
-    pairs = (line.partition(":") for line in lines if ":" in line)
-    return {name.split()[0]: libraries.split() for name, _, libraries in pairs}
-
-
-def below(tops, crates):
-    """The crates that some crates use, directly or through others, lowest first."""
-    needed = {library for top in tops for library in crates[top]}
-    for name in reversed(crates):
-        if name in needed:
-            needed.update(crates[name])
-    return [name for name in crates if name in needed]
 
 
 def say(text):
