@@ -6,6 +6,8 @@ mod excused;
 #[cfg(test)]
 mod explained;
 #[cfg(test)]
+mod guard_runs;
+#[cfg(test)]
 mod input;
 #[cfg(test)]
 mod jobs;
