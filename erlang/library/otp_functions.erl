@@ -5,7 +5,7 @@
 
 %% ---- proc_lib
 
-%% A process does not know what it is registered as, so '$ancestors' of its children has its pid.
+%% To ask for one's own name would be a step of each process that begins, so '$ancestors' of its children has its pid.
 'proc_lib:get_my_name'() -> self().
 
 %% Names for arguments that are not known would be atoms that no program has.
@@ -40,48 +40,7 @@
 'proc_lib:hibernate'(M, F, A) -> proc_lib:wake_up(M, F, A), exit(normal).
 'sys:handle_system_msg'(Message, From, Parent, Module, Debug, Misc, _) -> sys:handle_system_msg(Message, From, Parent, Module, Debug, Misc).
 
-%% ---- gen: a process has its name where whereis/1 says so
-
-'gen:get_proc_name'(Pid) when is_pid(Pid) -> Pid;
-'gen:get_proc_name'({local, Name}) ->
-    case whereis(Name) =:= self() of
-        true -> Name;
-        false -> exit(process_not_registered)
-    end;
-'gen:get_proc_name'({global, Name}) ->
-    case global:whereis_name(Name) =:= self() of
-        true -> Name;
-        false -> exit(process_not_registered_globally)
-    end;
-'gen:get_proc_name'({via, Module, Name}) ->
-    case Module:whereis_name(Name) =:= self() of
-        true -> Name;
-        false -> exit({process_not_registered_via, Module})
-    end.
-
-%% ---- what is sent to a name on a node goes to that name, where it is this node, and is lost else
-
-'gen_server:do_send'(To, Message) -> 'otp sends'(To, Message).
-'gen_statem:send'(To, Message) -> 'otp sends'(To, Message).
-
-'otp sends'(To, Message) ->
-    try
-        'otp sends to'(To, Message),
-        ok
-    catch error:_ -> ok
-    end.
-
-'otp sends to'({Name, Node}, Message) ->
-    case Node =:= node() of
-        true -> Name ! Message;
-        false -> Message
-    end;
-'otp sends to'(To, Message) -> To ! Message.
-
-'gen_event:send'({global, Name}, Command) -> catch global:send(Name, Command), ok;
-'gen_event:send'({via, Module, Name}, Command) -> catch Module:send(Name, Command), ok;
-'gen_event:send'({_, _} = To, Command) -> 'otp sends'(To, Command);
-'gen_event:send'(To, Command) -> To ! Command, ok.
+%% ---- there is one node
 
 'gen_server:do_multi_call'([Node], Name, Request, infinity) ->
     case Node =:= node() of
@@ -102,8 +61,9 @@
 'gen_event:report_error'(_, _, _, _, _) -> ok.
 'supervisor:report_progress'(_, _) -> ok.
 
-%% Stacks are empty; the rest of what a process is asked for is not read.
+%% Stacks are empty; beside the name of a process and how many messages it has the rest is not read.
 'erlang:process_info'(Pid, current_stacktrace) when is_pid(Pid) -> {current_stacktrace, []};
+'erlang:process_info'(Pid, Item) when Item =:= registered_name; Item =:= message_queue_len -> process_info(Pid, Item);
 'erlang:process_info'(Pid, Item) -> erlang:'process_info/2 of another item'(Pid, Item).
 
 %% ---- applications are configured by --env and by the files of applications; none is started

@@ -182,102 +182,6 @@
 'bag:last first'([_, _ | _] = Objects) -> try lists:reverse(Objects) catch error:_ -> Objects end;
 'bag:last first'(Objects) -> Objects.
 
-%% ---- what changes a row, and is several steps here. Nothing is changed where the real machine changes nothing: whether
-%% all of it can be done is looked at first.
-
-'ets:update_counter'(T, K, [Operation]) when is_tuple(Operation) -> ['ets count'(T, K, Operation)];
-'ets:update_counter'(T, K, Operations) when is_list(Operations) -> 'ets count each'(T, K, Operations);
-'ets:update_counter'(T, K, Operation) -> 'ets count'(T, K, Operation).
-
-'ets count'(T, K, {Position, Add, Limit, Value}) when is_integer(Add), is_integer(Limit), is_integer(Value) ->
-    Sum = ets:update_counter(T, K, {Position, Add}),
-    case 'ets is past'(Sum, Add, Limit) of
-        true -> ets:update_element(T, K, {Position, Value}), Value;
-        false -> Sum
-    end;
-'ets count'(T, K, Operation) -> ets:update_counter(T, K, Operation).
-
-'ets is past'(Sum, Add, Limit) when Add < 0 -> Sum < Limit;
-'ets is past'(Sum, _, Limit) -> Sum > Limit.
-
-'ets count each'(T, K, Operations) ->
-    Rows = ets:lookup(T, K),
-    'ets is refused'(T, Operations) andalso error(badarg),
-    case Rows =/= [] andalso 'ets counted'(hd(Rows), Operations, 'ets key position'(T), []) of
-        false -> error(badarg);
-        _ -> ['ets count'(T, K, O) || O <- Operations]
-    end.
-
-%% Bags are refused; a list of nothing asks all the same whether the process may write.
-'ets is refused'(T, []) -> ets:insert(T, []), 'ets is a bag'(T);
-'ets is refused'(T, _) -> 'ets is a bag'(T).
-
-%% What the operations give of a row, and the row after them; or false.
-'ets counted'(Row, [Operation | Rest], Key, Values) ->
-    case 'ets counted once'(Row, Operation, Key) of
-        false -> false;
-        Value -> 'ets counted'(setelement(element(1, Operation), Row, Value), Rest, Key, [Value | Values])
-    end;
-'ets counted'(Row, [], _, Values) -> {lists:reverse(Values), Row};
-'ets counted'(_, _, _, _) -> false.
-
-'ets counted once'(Row, {Position, Add}, Key) -> 'ets sum'(Row, Position, Add, Key);
-'ets counted once'(Row, {Position, Add, Limit, Value}, Key) when is_integer(Limit), is_integer(Value) ->
-    Sum = 'ets sum'(Row, Position, Add, Key),
-    case is_integer(Sum) andalso 'ets is past'(Sum, Add, Limit) of
-        true -> Value;
-        false -> Sum
-    end;
-'ets counted once'(_, _, _) -> false.
-
-'ets sum'(Row, Position, Add, Key) ->
-    case 'ets can change'(Row, Position, Key) andalso is_integer(Add) andalso is_integer(element(Position, Row)) of
-        true -> element(Position, Row) + Add;
-        false -> false
-    end.
-
-'ets can change'(Row, Position, Key) ->
-    is_integer(Position) andalso Position > 0 andalso Position =< tuple_size(Row) andalso Position =/= Key.
-
-%% Where the key is absent, the default is put in as the operations leave it, in one step.
-'ets:update_counter'(T, K, Operations, Default) when is_tuple(Default) ->
-    case 'ets first row'(K, Operations, Default, 'ets key position'(T)) of
-        {Values, Row} ->
-            'ets is a bag'(T) andalso error(badarg),
-            case ets:insert_new(T, Row) of
-                true -> Values;
-                false -> 'ets:update_counter'(T, K, Operations)
-            end;
-        false -> 'ets:update_counter'(T, K, Operations)
-    end;
-'ets:update_counter'(_, _, _, _) -> error(badarg).
-
-'ets first row'(K, Operations, Default, Key) when is_integer(Key), Key =< tuple_size(Default) ->
-    Row = setelement(Key, Default, K),
-    case Operations of
-        Add when is_integer(Add) -> 'ets of one operation'('ets counted'(Row, [{Key + 1, Add}], Key, []));
-        Operation when is_tuple(Operation) -> 'ets of one operation'('ets counted'(Row, [Operation], Key, []));
-        _ -> 'ets counted'(Row, Operations, Key, [])
-    end;
-'ets first row'(_, _, _, _) -> false.
-
-'ets of one operation'({[Value], Row}) -> {Value, Row};
-'ets of one operation'(false) -> false.
-
-'ets:update_element'(T, K, Pairs) when is_list(Pairs) ->
-    case ets:lookup(T, K) of
-        [] -> ets:insert(T, []), 'ets is a bag'(T) andalso error(badarg), false;
-        [Row | _] ->
-            'ets is refused'(T, Pairs) andalso error(badarg),
-            'ets fit pairs'(Pairs, Row, 'ets key position'(T)) orelse error(badarg),
-            [ets:update_element(T, K, P) || P <- Pairs],
-            true
-    end;
-'ets:update_element'(T, K, Pair) -> ets:update_element(T, K, Pair).
-
-'ets fit pairs'([{Position, _} | Rest], Row, Key) -> 'ets can change'(Row, Position, Key) andalso 'ets fit pairs'(Rest, Row, Key);
-'ets fit pairs'(Rest, _, _) -> Rest =:= [].
-
 %% ---- select_replace: what replaces an object has its key, which the clauses have to show
 
 'ets:select_replace'(T, Clauses) ->
@@ -328,13 +232,6 @@
 'ets has no blank'(_) -> true.
 
 %% ---- what is asked of tables
-
-%% All items are asked for at once, and not all of them are known here.
-'ets:info'(T) ->
-    case ets:info(T, type) of
-        undefined -> undefined;
-        _ -> ets:'info/1 of a table that is there'(T)
-    end.
 
 'ets:info'(T, Item) ->
     case lists:member(Item, [name, owner, heir, size, type, protection, keypos, named_table]) of

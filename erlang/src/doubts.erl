@@ -8,17 +8,15 @@
 
 %%   timers   whether the module makes timers that may be for a name
 %%   spawns   whether it makes processes
-%%   deletes  whether it takes objects out of tables
 %%   known    what the variables of the function at hand are, as far as it is plain: map, binary, function, timer, which may be
 %%            for a name, or reference; {processes} are those that have a process
--record(scope, {timers, spawns, deletes, known = #{}, ledger}).
+-record(scope, {timers, spawns, known = #{}, ledger}).
 
 %% The ledger with the doubts that definitions of the source give, a list of them for each module.
 find(Modules, Tables, Ledger) ->
     Codes = [Code || Definitions <- Modules, #definition{code = Code} <- Definitions],
     Scope = #scope{timers = lists:any(fun makes_named_timer/1, Codes),
-                   spawns = lists:any(fun(C) -> has(fun is_spawn/1, C) end, Codes),
-                   deletes = lists:any(fun(C) -> has(fun is_delete/1, C) end, Codes), ledger = Ledger},
+                   spawns = lists:any(fun(C) -> has(fun is_spawn/1, C) end, Codes), ledger = Ledger},
     (lists:foldl(fun(Definitions, S) -> of_module(Definitions, Tables, S) end, Scope, Modules))#scope.ledger.
 
 of_module(Definitions, Tables, #scope{ledger = Ledger} = Scope) ->
@@ -27,7 +25,7 @@ of_module(Definitions, Tables, #scope{ledger = Ledger} = Scope) ->
     lists:foldl(fun(D, S) -> of_function(D, Functions, S) end, Looked, Definitions).
 
 of_function(#definition{code = Code} = D, Functions, Scope) ->
-    {_, Done} = core_tree:walk(fun rule/3, {"", 0}, Scope#scope{known = known(D, Functions)}, Code),
+    {_, Done} = core_tree:walk(fun rule/3, {"", 0}, Scope#scope{known = known(D, Functions)}, table_forms:asked(Code)),
     Done.
 
 has(Is, Code) -> core_tree:fold(fun(Node, Found) -> Found orelse Is(Node) end, false, Code).
@@ -40,11 +38,6 @@ is_spawn(#c_call{module = #c_literal{val = M}, name = #c_literal{val = F}}) ->
     M =:= erlang andalso lists:member(F, [spawn, spawn_link, spawn_monitor])
         orelse M =:= gen_server andalso lists:member(F, [start, start_link]);
 is_spawn(_) -> false.
-
-is_delete(#c_call{module = #c_literal{val = ets}, name = #c_literal{val = F}, args = [_ | Others]}) ->
-    lists:member({F, length(Others)},
-                 [{delete, 1}, {delete_object, 1}, {delete_all_objects, 0}, {take, 1}, {match_delete, 1}, {select_delete, 1}]);
-is_delete(_) -> false.
 
 %% ---- what a variable is
 
@@ -170,8 +163,9 @@ written(V, Tree) ->
 doubt({erlang, is_reference, 1}, [Kind], _, #scope{timers = true}) when Kind =:= unknown; Kind =:= timer ->
     "a timer for a name is a pid here, and PLACE asks is_reference/1";
 doubt({erlang, is_pid, 1}, [timer], _, _) -> "a timer for a name is a pid here, and PLACE asks is_pid/1 of one";
-doubt({ets, F, A}, _, Args, #scope{spawns = true} = S) ->
-    case is_several({F, A}, Args, S) of
+doubt({ets, info, 1}, _, _, _) -> "ets:info/1 at PLACE gives eight items here, and in Erlang more";
+doubt({ets, F, A}, _, Args, #scope{spawns = true}) ->
+    case is_several({F, A}, Args) of
         true -> io_lib:format("ets:~ts/~w at PLACE is several steps here, and in Erlang it is one", [F, A]);
         false -> none
     end;
@@ -195,24 +189,10 @@ doubt_of_time({M, F, A}) ->
         none -> none
     end.
 
-%% Whether a call of ets is several steps between which others may come so that it matters. Where a key is there already,
-%% update_counter/4 looks and then adds, which matters only where the object goes meanwhile.
-is_several({update_counter, 4}, [_, _, Operation, _], #scope{deletes = Deletes}) -> Deletes orelse is_several(Operation);
-is_several({F, 3}, [_, _, Operation], _) when F =:= update_counter; F =:= update_element -> is_several(Operation);
-is_several({match_delete, 2}, [_, #c_literal{val = '_'}], _) -> false;
-is_several({F, 2}, _, _) -> lists:member(F, [match_delete, select_delete, select_replace]);
-is_several(_, _, _) -> false.
-
-%% A list of operations, or one with a threshold.
-is_several(#c_literal{val = V}) -> length_of(V) > 1 orelse is_tuple(V) andalso tuple_size(V) > 2;
-is_several(#c_tuple{es = Es}) -> length(Es) > 2;
-is_several(#c_cons{tl = #c_literal{val = []}, hd = Only}) -> is_several(Only);
-is_several(#c_cons{}) -> true;
-is_several(_) -> false.
-
-length_of([One]) when tuple_size(One) > 2 -> 2;
-length_of(V) when is_list(V) -> length(V);
-length_of(_) -> 0.
+%% Whether a call of ets is several steps between which others may come so that it matters.
+is_several({match_delete, 2}, [_, #c_literal{val = '_'}]) -> false;
+is_several({F, 2}, _) -> lists:member(F, [match_delete, select_delete, select_replace]);
+is_several(_, _) -> false.
 
 %% Those of the arguments of which a call wants to know a tuple or their order.
 asked(F, 1, Kinds) when F =:= tuple_size; F =:= tuple_to_list -> Kinds;

@@ -30,20 +30,21 @@ is_request(erlang, F, A) ->
     lists:member({F, A}, [{spawn, 3}, {spawn_link, 3}, {spawn_monitor, 3}, {'!', 2}, {send, 2}, {exit, 2}, {link, 1},
                           {unlink, 1}, {monitor, 2}, {demonitor, 1}, {demonitor, 2}, {process_flag, 2}, {register, 2},
                           {unregister, 1}, {whereis, 1}, {is_process_alive, 1}, {make_ref, 0}, {monitor, 3}, {alias, 0},
-                          {alias, 1}, {unalias, 1}, {start_timer, 3}, {send_after, 3}, {cancel_timer, 1}, {read_timer, 1}]);
+                          {alias, 1}, {unalias, 1}, {start_timer, 3}, {send_after, 3}, {cancel_timer, 1}, {read_timer, 1},
+                          {registered, 0}, {process_info, 2}]);
 is_request(ets, F, A) ->
     lists:member({F, A}, [{new, 2}, {lookup, 2}, {member, 2}, {lookup_element, 3}, {first, 1}, {last, 1},
                           {next, 2}, {prev, 2}, {tab2list, 1}, {insert, 2}, {insert_new, 2}, {delete, 1},
                           {delete, 2}, {delete_object, 2}, {delete_all_objects, 1}, {take, 2},
-                          {update_counter, 3}, {update_element, 3}, {give_away, 3}, {setopts, 2}, {info, 2}]);
+                          {update_counter, 3}, {update_counter, 4}, {update_element, 3}, {give_away, 3}, {setopts, 2},
+                          {info, 1}, {info, 2}]);
 is_request(_, _, _) -> false.
 
 %% Whether a call for which the library has a function too is left as it is: one that the explorer answers in this form, and
 %% in the library each that it answers.
 is_plain(library, {M, F, A}, _) -> is_request(M, F, A);
-is_plain(_, {ets, update_counter, 3}, [_, _, Operation]) -> lists:member(shape(Operation), [integer, pair]);
-is_plain(_, {ets, update_element, 3}, [_, _, Operation]) -> shape(Operation) =:= pair;
-is_plain(_, {ets, info, 2}, [_, Item]) -> shape(Item) =/= computed;
+is_plain(_, {ets, info, 2}, [_, Item]) -> is_written(Item);
+is_plain(_, {erlang, process_info, 2}, [_, #c_literal{val = Item}]) -> is_of_process(Item);
 is_plain(_, _, _) -> false.
 
 %% What is wrong with the arguments of a call: {refuse, What, Text}, where Text says in a sentence that What is not
@@ -65,44 +66,39 @@ objection(_, {erlang, demonitor, 2}, [_, #c_literal{val = Options}]) when Option
 objection(_, {erlang, demonitor, 2}, [_, #c_literal{val = Options}]) ->
     unknown(io_lib:format("demonitor/2 with ~tw", [Options]));
 objection(_, {erlang, demonitor, 2}, _) -> unknown("demonitor/2 with computed options");
-objection(_, {erlang, Send, 2}, [#c_tuple{}, _]) when Send =:= '!'; Send =:= send -> to_a_node();
-objection(_, {erlang, Send, 2}, [#c_literal{val = To}, _]) when is_tuple(To), Send =:= '!' orelse Send =:= send -> to_a_node();
 objection(_, {erlang, Start, 3}, _) when Start =:= start_timer; Start =:= send_after ->
     {note, "a timer may come at once here, as each timeout may"};
 objection(_, {erlang, F, 1}, _) when F =:= cancel_timer; F =:= read_timer ->
     {note, io_lib:format("erlang:~ts/1 gives the whole time of a timer here, not what is left of it", [F])};
+objection(_, {ets, info, 1}, _) -> {note, "ets:info/1 gives only the items that are known here"};
 objection(_, {ets, info, 2}, [_, #c_literal{val = Item}]) ->
     case lists:member(Item, [name, owner, heir, size, type, protection, keypos, named_table]) of
         true -> none;
         false -> unknown(io_lib:format("ets:info(.., ~tw)", [Item]))
     end;
+objection(_, {erlang, registered, 0}, _) ->
+    {note, "erlang:registered/0 has the names of the program alone here, in the order of terms"};
 objection(_, {erlang, F, A}, _) when F =:= get_keys; A =:= 0, F =:= get orelse F =:= erase ->
     {note, io_lib:format("the list of erlang:~ts/~w is in the order of its keys here", [F, A])};
 objection(_, _, _) -> none.
 
 %% A watch of what is meant by its kind.
-watch(Call, #c_literal{val = process}, #c_literal{}) -> watch_of_name(Call);
-watch(Call, #c_literal{val = process}, #c_tuple{}) -> watch_of_name(Call);
-watch(Call, #c_literal{val = process}, _) -> {note, Call ++ " of what turns out to be a name is badarg here"};
+watch(_, #c_literal{val = process}, _) -> none;
 watch(_, #c_literal{val = Kind}, _) -> unknown(io_lib:format("monitor(~tw, ..)", [Kind]));
 watch(Call, _, _) -> unknown(Call ++ " of a computed kind").
 
-watch_of_name(Call) -> {refuse, Call ++ " of a name", Call ++ " of a name is not known here: use whereis/1"}.
+%% What process_info/2 tells.
+is_of_process(Item) -> lists:member(Item, [registered_name, message_queue_len]).
 
 %% Whether options of monitor/3 only say how an alias ends.
 are_of_alias([{alias, How} | Options]) -> lists:member(How, [explicit_unalias, demonitor, reply_demonitor]) andalso are_of_alias(Options);
 are_of_alias(Options) -> Options =:= [].
 
-%% What is known of an operation on an object before it is computed.
-shape(#c_literal{val = V}) when is_integer(V) -> integer;
-shape(#c_literal{val = {_, _}}) -> pair;
-shape(#c_tuple{es = [_, _]}) -> pair;
-shape(#c_literal{}) -> other;
-shape(#c_tuple{}) -> other;
-shape(#c_cons{}) -> other;
-shape(_) -> computed.
-
-to_a_node() -> unknown("a message to a name on a node").
+%% Whether it is known which item is asked for, or that it is none, before it is computed.
+is_written(#c_literal{}) -> true;
+is_written(#c_tuple{}) -> true;
+is_written(#c_cons{}) -> true;
+is_written(_) -> false.
 
 begins(Own, #c_literal{val = Own}, _) -> none;
 begins(_, #c_literal{val = M}, #c_literal{val = F}) ->

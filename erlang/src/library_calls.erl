@@ -137,9 +137,6 @@ notes_of({M, F, A}) ->
         none -> []
     end.
 
-notes_of_tables(update_counter, 4) -> ["ets:update_counter/4 is a step that puts in or looks, and then one or more that add here"];
-notes_of_tables(F, 3) when F =:= update_counter; F =:= update_element ->
-    [lists:concat(["ets:", F, "/3 of several operations, or with a threshold, is several steps here"])];
 notes_of_tables(F, A) when F =:= match_delete; F =:= select_delete ->
     [lists:concat(["ets:", F, "/", A, " is a step that looks and then one for each object here"])];
 notes_of_tables(select_replace, 2) -> ["ets:select_replace/2 is a step that looks and then one that writes here"];
@@ -147,7 +144,7 @@ notes_of_tables(safe_fixtable, 2) -> ["ets:next/2 and ets:prev/2 find the next k
 notes_of_tables(whereis, 1) -> ["ets:whereis/1 gives the name here, not a reference"];
 notes_of_tables(match_spec_compile, 1) -> ["a compiled match specification is a function here, not a reference"];
 notes_of_tables(F, A) ->
-    case lists:member({F, A}, [{foldl, 3}, {foldr, 3}, {info, 1}, {info, 2}, {match_spec_run, 2}, {is_compiled_ms, 1}, {test_ms, 2}]) of
+    case lists:member({F, A}, [{foldl, 3}, {foldr, 3}, {info, 2}, {match_spec_run, 2}, {is_compiled_ms, 1}, {test_ms, 2}]) of
         true -> [];
         false -> [lists:concat(["ets:", F, "/", A, " is one step here"])]
     end.

@@ -146,7 +146,7 @@ carries({down, _, {message, Message}}, Message) -> true;
 carries({_, _, _, {message, Message}}, Message) -> true;
 carries(_, _) -> false.
 
-of_end({down, _, _}, {tuple, [{atom, 'DOWN'}, _, _, {pid, From}, Reason]}, From, Name, Before) ->
+of_end({down, _, _}, {tuple, [{atom, 'DOWN'}, _, _, _, Reason]}, From, Name, Before) ->
     case is_told_of(From, Name, Reason, Before) of
         true -> {{watch, From}, [{ends, From, Reason}]};
         false -> none

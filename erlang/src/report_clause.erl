@@ -35,6 +35,7 @@ of_table(Function, [Table | _], {refused, _}) -> [called(ets, Function), " of ",
 of_table(give_away, [Table, To, _], _) -> ["gives ", report_term:text(Table), " to ", report_term:text(To)];
 of_table(setopts, [Table | _], _) -> ["sets the heir of ", report_term:text(Table)];
 of_table(delete, [Table], _) -> ["deletes the table ", report_term:text(Table)];
+of_table(update_element, [Table | _], {ok, {atom, false}}) -> ["reads ", report_term:text(Table)];
 of_table(Function, [Table | _], _) ->
     Deletes = lists:member(Function, [delete, delete_object, delete_all_objects, take]),
     Writes = lists:member(Function, [insert, insert_new, update_counter, update_element]),
@@ -52,6 +53,9 @@ of_process(register, [Name, _], {ok, _}) -> ["registers ", Name];
 of_process(register, [Name | _], _) -> ["tries to register ", Name];
 of_process(unregister, [Name], _) -> ["frees the name ", Name];
 of_process(whereis, [Name], _) -> ["looks up ", Name];
+of_process(registered, [], _) -> "looks at all names";
+of_process(process_info, [Name, "registered_name"], _) -> ["asks for the name of ", Name];
+of_process(process_info, [Name, "message_queue_len"], _) -> ["counts the messages of ", Name];
 of_process(is_process_alive, [Name], _) -> ["asks whether ", Name, " lives"];
 of_process(unalias, [Alias], {ok, {atom, false}}) -> ["tries to end the alias ", Alias];
 of_process(unalias, [Alias], _) -> ["ends the alias ", Alias];

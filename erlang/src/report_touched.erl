@@ -7,8 +7,9 @@
 %% The things of an event, {Thing, read} or {Thing, write}, in the world before it:
 %%   {row, Table, Key}   the objects under a key, or under any
 %%   {table, Table}      whether it is there, and whose it is
-%%   {name, Name}        who holds it
+%%   {name, Name}        who holds it, or who holds any
 %%   {mail, Process}     what came into its mailbox
+%%   {taken, Process}    what was taken from its mailbox
 %%   {trap, Process}     whether it traps exits
 %%   {bond, Which}       a link of two processes, or a watch, an alias or a timer, by its reference
 %%   {life, Process}     whether it lives
@@ -35,6 +36,7 @@ ended(Name, World) ->
         ++ [{{table, Table}, write} || Table <- report_world:tables(Name, World)].
 
 done(Name, timeout, _) -> [{{mail, Name}, read}];
+done(Name, {receives, _}, _) -> [{{taken, Name}, write}];
 done(Name, {ends, _}, World) -> ended(Name, World);
 done(Name, runaway, World) -> ended(Name, World);
 done(Name, {call, _, _, _, {ends, _}}, World) -> ended(Name, World);
@@ -50,17 +52,23 @@ of_process(Send, [{pid, To}, _], _, Name, World) when To =/= Name, Send =:= '!' 
 of_process(Send, [{ref, Name} = Reference, _], _, _, World) when Send =:= '!'; Send =:= send ->
     [{{bond, Reference}, read} | by_alias(report_world:alias_end(Name, World), report_world:maker(Name), World)];
 of_process(exit, [{pid, To}, _], _, _, _) -> [{{life, To}, read}];
-of_process(Send, [{atom, Held}, _], _, _, World) when Send =:= '!'; Send =:= send ->
-    [{{name, Held}, read} | [{{life, To}, read} || To <- [report_world:holder(Held, World)], To =/= none]];
+of_process(Send, [{atom, Held}, _], _, _, World) when Send =:= '!'; Send =:= send -> of_holder(Held, World);
+of_process(Send, [{tuple, [{atom, Held}, {atom, nonode@nohost}]}, _], _, _, World) when Send =:= '!'; Send =:= send -> of_holder(Held, World);
 of_process(link, [{pid, To}], _, Name, _) -> [{{life, To}, read}, {{bond, bond(Name, To)}, write}];
 of_process(unlink, [{pid, To}], _, Name, _) -> [{{bond, bond(Name, To)}, write}];
 of_process(monitor, [_, {pid, To} | _], _, _, _) -> [{{life, To}, read}];
+of_process(monitor, [_, {atom, Held} | _], _, _, World) -> of_holder(Held, World);
+of_process(monitor, [_, {tuple, [{atom, Held}, {atom, nonode@nohost}]} | _], _, _, World) -> of_holder(Held, World);
 of_process(demonitor, [Reference | _], _, _, _) -> [{{bond, Reference}, write}];
 of_process(process_flag, _, _, Name, _) -> [{{trap, Name}, write}];
 of_process(register, [{atom, Held}, {pid, To}], Answer, _, _) -> [{{name, Held}, access(Answer)}, {{life, To}, read}];
 of_process(unregister, [{atom, Held}], Answer, _, _) -> [{{name, Held}, access(Answer)}];
 of_process(whereis, [{atom, Held}], _, _, _) -> [{{name, Held}, read}];
 of_process(is_process_alive, [{pid, To}], _, _, _) -> [{{life, To}, read}];
+of_process(process_info, [{pid, To}, {atom, message_queue_len}], _, _, _) -> [{{life, To}, read}, {{mail, To}, read}, {{taken, To}, read}];
+of_process(process_info, [{pid, To}, {atom, registered_name}], Answer, _, World) ->
+    [{{life, To}, read} | [{{name, Held}, read} || Held <- report_world:names(To, World), Answer =/= badarg]];
+of_process(registered, [], _, _, _) -> [{{name, any}, read}];
 of_process(unalias, [Reference], _, _, _) -> [{{bond, Reference}, write}];
 of_process(Start, [_, {pid, To}, _], _, _, _) when Start =:= start_timer; Start =:= send_after -> [{{life, To}, read}];
 of_process(cancel_timer, [Reference], _, _, _) -> [{{bond, Reference}, write}];
@@ -71,6 +79,7 @@ of_process(_, _, _, _, _) -> [].
 %% message might have arrived before.
 by_alias(none, _, _) -> [];
 by_alias(How, To, World) -> [{{life, To}, read} | [{{mail, To}, write} || How =:= ended orelse report_world:is_gone(To, World)]].
+of_holder(Held, World) -> [{{name, Held}, read} | [{{life, To}, read} || To <- [report_world:holder(Held, World)], To =/= none]].
 
 %% A call that is refused changes nothing.
 access({ok, _}) -> write;
@@ -81,6 +90,7 @@ access(_) -> read.
 of_table(new, _, {ok, Table}, _) -> [{{table, Table}, write}];
 of_table(new, [Table, _], _, _) -> [{{table, Table}, read}];
 of_table(_, [Table | _], {refused, _}, _) -> [{{table, Table}, read}];
+of_table(update_element, [Table, Key, _], {ok, {atom, false}}, _) -> [{{table, Table}, read}, {{row, Table, Key}, read}];
 of_table(give_away, [Table, {pid, To}, _], _, _) -> [{{table, Table}, write}, {{life, To}, read}];
 of_table(setopts, [Table | _], _, _) -> [{{table, Table}, write}];
 of_table(delete, [Table], _, _) -> [{{table, Table}, write}, {{row, Table, any}, write}];
@@ -110,6 +120,7 @@ meet(Things, Others) ->
     [Meeting || {_, Meeting} <- lists:keysort(1, Met)].
 
 is_same({row, Table, Key}, {row, Table, Other}) -> Key =:= Other orelse Key =:= any orelse Other =:= any;
+is_same({name, Name}, {name, Other}) -> Name =:= Other orelse Name =:= any orelse Other =:= any;
 is_same(Thing, Other) -> Thing =:= Other.
 
-rank(Thing) -> length(lists:takewhile(fun(Kind) -> Kind =/= element(1, Thing) end, [row, table, name, mail, trap, bond, life])).
+rank(Thing) -> length(lists:takewhile(fun(Kind) -> Kind =/= element(1, Thing) end, [row, table, name, mail, taken, trap, bond, life])).

@@ -102,12 +102,8 @@ served(erlang, link, [{pid, To}], _, Name, #world{links = Links} = World) when T
         {false, true} -> put_on(To, Name, linked(Name, To, World))
     end;
 served(erlang, unlink, [{pid, To}], _, Name, #world{links = Links} = World) -> World#world{links = lists:delete(pair(Name, To), Links)};
-served(erlang, monitor, [_, {pid, To} | Options], {ref, Reference}, Name, World) when To =/= Name ->
-    Watched = aliased(Reference, how(Options, none), watched(Reference, Name, To, World)),
-    case is_gone(To, World) of
-        true -> put_on(To, Name, Watched);
-        false -> Watched
-    end;
+served(erlang, monitor, [_, {pid, To} | Options], {ref, Reference}, Name, World) -> watched(Reference, Name, To, how(Options, none), World);
+served(erlang, monitor, [_, To | Options], {ref, Reference}, Name, World) -> watched(Reference, Name, receiver(To, World), how(Options, none), World);
 served(erlang, demonitor, [{ref, Reference} | _], _, Name, World) ->
     case maker(Reference) of
         Name -> unwatched(Reference, World);
@@ -129,6 +125,7 @@ served(_, _, _, _, _, World) -> World.
 
 receiver({pid, To}, _) -> To;
 receiver({atom, Name}, World) -> holder(Name, World);
+receiver({tuple, [{atom, Name}, {atom, nonode@nohost}]}, World) -> holder(Name, World);
 receiver(_, _) -> none.
 
 %% The heir that options give, or else the one that is known.
@@ -144,6 +141,16 @@ linked(Name, Other, #world{links = Links} = World) -> World#world{links = [pair(
 pair(Name, Other) -> {min(Name, Other), max(Name, Other)}.
 
 watched(Reference, Watcher, Watched, #world{watches = Watches} = World) -> World#world{watches = Watches ++ [{Reference, Watcher, Watched}]}.
+
+%% A watch with an alias, except of oneself. Of what is gone its message comes at once, and of a name that nobody has from the watcher.
+watched(_, Name, Name, _, World) -> World;
+watched(Reference, Name, none, How, World) -> put_on(Name, Name, aliased(Reference, How, watched(Reference, Name, Name, World)));
+watched(Reference, Name, To, How, World) ->
+    Watched = aliased(Reference, How, watched(Reference, Name, To, World)),
+    case is_gone(To, World) of
+        true -> put_on(To, Name, Watched);
+        false -> Watched
+    end.
 
 %% With a watch ends an alias that was made with it, unless unalias/1 alone ends that.
 unwatched(Reference, #world{watches = Watches} = World) ->

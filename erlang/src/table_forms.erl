@@ -1,7 +1,7 @@
 %% Calls of ets that are said in another way here, as far as the source shows which table is meant and what is asked.
 -module(table_forms).
 
--export([replace/2, settle/2]).
+-export([replace/2, asked/1, settle/2]).
 
 -include("core.hrl").
 
@@ -25,17 +25,7 @@ rule(#c_call{module = #c_literal{val = ets}, name = #c_literal{val = F}, args = 
     end;
 rule(#c_call{module = #c_literal{val = ets} = M, name = #c_literal{val = F}} = N, #scope{is_fixed = true}) when F =:= next; F =:= prev ->
     N#c_call{module = M#c_literal{val = 'fixed table'}};
-rule(#c_case{arg = Asked, clauses = Clauses} = N, _) ->
-    case lists:all(fun tells_undefined/1, Clauses) of
-        true -> N#c_case{arg = one_item(Asked)};
-        false -> N
-    end;
-rule(#c_let{vars = [#c_var{name = V}], arg = Asked, body = Body} = N, _) ->
-    case core_tree:fold(fun(Node, Sum) -> uses(Node, V, Sum) end, {0, 0}, Body) of
-        {Same, Same} -> N#c_let{arg = one_item(Asked)};
-        _ -> N
-    end;
-rule(N, _) -> N.
+rule(N, _) -> asked_for(N).
 
 %% The objects of a list come into a bag from the last to the first.
 last_first(#c_tuple{} = Object) -> Object;
@@ -55,7 +45,23 @@ turned(#c_cons{hd = H, tl = T} = N, Sum) -> turned(T, N#c_cons{tl = Sum, hd = H}
 turned(#c_literal{val = V}, Sum) when length(V) >= 0 -> lists:foldl(fun(X, S) -> #c_cons{hd = core_tree:literal(X), tl = S} end, Sum, V);
 turned(_, _) -> false.
 
-%% Where it is asked of ets:info/1 only whether there is a table, one item says it.
+%% A code in which one item is asked for where it is asked of ets:info/1 only whether there is a table: that says it.
+asked(Code) ->
+    {New, none} = core_tree:walk(fun(N, _, none) -> {inside, asked_for(N), none} end, {"", 0}, none, Code),
+    New.
+
+asked_for(#c_case{arg = Asked, clauses = Clauses} = N) ->
+    case lists:all(fun tells_undefined/1, Clauses) of
+        true -> N#c_case{arg = one_item(Asked)};
+        false -> N
+    end;
+asked_for(#c_let{vars = [#c_var{name = V}], arg = Asked, body = Body} = N) ->
+    case core_tree:fold(fun(Node, Sum) -> uses(Node, V, Sum) end, {0, 0}, Body) of
+        {Same, Same} -> N#c_let{arg = one_item(Asked)};
+        _ -> N
+    end;
+asked_for(N) -> N.
+
 one_item(#c_call{module = #c_literal{val = ets}, name = #c_literal{val = info}, args = [Table]} = N) ->
     N#c_call{args = [Table, core_tree:literal(type)]};
 one_item(N) -> N.

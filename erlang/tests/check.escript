@@ -30,7 +30,8 @@ load(File) ->
 part("snippets", Program, Here, Folder, Library) -> snippet_tests:all(Program, Here, Folder, Library);
 part("random", Program, Here, Folder, Library) ->
     random_tests:all(Program, Folder, Library) ++ random_calls:all(Program, filename:dirname(Here), Folder, Library)
-        ++ random_dictionaries:all(Program, Folder, Library) ++ random_guards:all(Program, Folder, Library);
+        ++ random_dictionaries:all(Program, Folder, Library) ++ random_tables:all(Program, Folder, Library)
+        ++ random_guards:all(Program, Folder, Library);
 part("refusals", Program, Here, Folder, Library) -> refusal_tests:all(Program, Here, Folder, Library);
 part("doubts", _, Here, Folder, Library) -> doubt_tests:all(Here, Folder, Library);
 part("command", _, Here, Folder, _) -> command_tests:all(filename:dirname(Here), Folder);

@@ -51,17 +51,13 @@ one(Module, {F, Arity} = Name, Tables) ->
     case kinds(Name) of
         none -> {Text, {failed, no_arguments_are_known}};
         Kinds ->
-            Results = [compared(Module, F, harmless(F, arguments(Kinds, Tables))) || _ <- lists:seq(1, ?CALLS)],
+            Results = [compared(Module, F, arguments(Kinds, Tables)) || _ <- lists:seq(1, ?CALLS)],
             case {[R || {_, _, real, _, ours, _} = R <- Results], length([stop || stop <- Results])} of
                 {[], Stops} when Stops * 2 =< ?CALLS -> {Text, passed};
                 {[], Stops} -> {Text, {failed, {stops, Stops}}};
                 {[First | _] = Differences, _} -> {Text, {failed, {length(Differences), First}}}
             end
     end.
-
-%% Release 25 of the real machine breaks down where an empty default would be put in.
-harmless('ets:update_counter', [T, K, Operation, {}]) -> [T, K, Operation, {K}];
-harmless(_, Arguments) -> Arguments.
 
 compared(Module, F, Arguments) ->
     [M, Name] = string:split(atom_to_list(F), ":"),
@@ -171,7 +167,6 @@ argument(replace_options, _) ->
     some_of([global, global, {insert_replaced, rand:uniform(3) - 1}, {insert_replaced, [1, 0]}, {insert_replaced, []}, {scope, {1, 4}}]);
 argument(deep_text, _) -> text(3);
 argument(table, Tables) -> pick(Tables);
-argument(no_table, _) -> no_table;
 argument(table_fold, _) -> fun(R, A) -> [R | A] end;
 argument(pattern, _) -> pattern();
 argument(specification, _) -> specification();
@@ -179,11 +174,6 @@ argument(replacement, _) -> replacement();
 argument(continuation, _) -> pick(['$end_of_table', {}, [], more]);
 argument(item, _) -> pick([size, type, keypos, protection, named_table, heir, name, none]);
 argument(bool, _) -> pick([true, false]);
-argument(row_key, _) -> pick([1, 2, 9, {1, b}, {2, b}, k]);
-argument(operations, _) -> some(fun operation/0);
-argument(operation, _) -> pick([rand:uniform(9), operation(), some(fun operation/0)]);
-argument(change, _) -> some(fun() -> {pick([2, 3, 3, 2, 4, 1]), item()} end);
-argument(default, _) -> pick([{x, 1}, {x, 1, 2}, {x, a, 3}, {x}, x]);
 argument(lists_sorted, _) -> some(fun() -> lists:sort(some(fun item/0)) end);
 argument(sorted_once, _) -> lists:usort(some(fun item/0));
 argument(lists_sorted_once, _) -> some(fun() -> lists:usort(some(fun item/0)) end);
@@ -193,10 +183,6 @@ argument(zip_fold, _) -> fun(A, B, C) -> {A, B, C} end;
 argument(walked, _) -> pick([argument(map, none), argument(map, none), argument(iterator, none)]);
 argument(iterator, _) -> pick([none, [0 | argument(map, none)], {a, 1, none}, maps:next([0 | #{a => 1, b => 2}])]);
 argument({text, Kind}, _) -> text_arguments:argument(Kind).
-
-operation() ->
-    pick([{pick([2, 2, 3, 1, 4]), rand:uniform(9) - 5}, {pick([2, 2, 3]), rand:uniform(9) - 5, rand:uniform(9) - 5, rand:uniform(9) - 5},
-          {2, 1, 3, a}, {2, a}, {2}, 7]).
 
 letter() -> pick("abcabcabc" ++ [0, 128, 255]).
 
@@ -332,8 +318,7 @@ of_ets() ->
      {select_reverse, [table, specification]}, {select_replace, [table, replacement]}, {select, [table, specification, int]},
      {select_reverse, [table, specification, int]}, {match, [table, pattern, int]}, {match_object, [table, pattern, int]},
      {select, [continuation]}, {select_reverse, [continuation]}, {match, [continuation]}, {match_object, [continuation]},
-     {safe_fixtable, [table, bool]}, {info, [no_table]}, {info, [table, item]}, {update_counter, [table, row_key, operations]},
-     {update_counter, [table, row_key, operation, default]}, {update_element, [table, row_key, change]}].
+     {safe_fixtable, [table, bool]}, {info, [table, item]}].
 
 of_erlang() ->
     [{max, [any, any]}, {min, [any, any]}, {append_element, [tuple, any]}, {make_tuple, [int, any]}, {integer_to_list, [number]},

@@ -1,6 +1,7 @@
-%% Random sequences of calls of aliases and timers: references that are aliases of all kinds, watches, timers or nothing, to
-%% which the process itself and others send, and which are ended by all calls that may end one. Each gives on the real machine
-%% what the explorer finds. What may come at any time is waited for, or settled before its answer is looked at.
+%% Random sequences of calls of aliases and timers: references that are aliases of all kinds, watches of processes and of names,
+%% timers or nothing, to which the process itself and others send, and which are ended by all calls that may end one. Each gives
+%% on the real machine what the explorer finds. What may come at any time is waited for, or settled before its answer is looked
+%% at.
 -module(random_guards).
 
 -export([all/3]).
@@ -68,6 +69,7 @@ helpers() ->
      "own_by_send(To, M) -> look(erlang:send(To, M)).",
      "look(N) -> is_process_alive(self()), receive never -> never after 0 -> N end.",
      "gone() -> {P, M} = spawn_monitor(fun() -> ok end), receive {'DOWN', M, process, P, _} -> P end.",
+     "named(P, F) -> register(n, P), R = F(), unregister(n), R.",
      "ended(R) -> receive {'DOWN', R, process, _, noproc} -> R end.",
      "elsewhere(F) -> {_, M} = spawn_monitor(fun() -> exit(F()) end), receive {'DOWN', M, process, _, V} -> V end.",
      "came(T) -> receive {timeout, T, x} -> T end.",
@@ -99,8 +101,10 @@ made(Text, #made{made = Made} = M) ->
 
 call(1, M) -> made("make_ref()", M);
 call(N, M) when N =< 3 -> made(pick(["alias()", "alias([])", "alias([reply])", "alias([explicit_unalias])", "alias([reply, explicit_unalias])"]), M);
-call(N, #made{others = [_ | _] = Others} = M) when N =< 6 -> made(["monitor(process, ", pick(["self()" | Others]), pick(["", options(), options(), options()]), ")"], M);
-call(7, M) -> made(["ended(monitor(process, P3", options(), "))"], M);
+call(N, #made{others = [_ | _] = Others} = M) when N =< 5 -> made(["monitor(process, ", pick(["self()" | Others]), pick(["", options(), options(), options()]), ")"], M);
+call(6, #made{others = [_ | _] = Others} = M) ->
+    made(["named(", pick(["self()" | Others]), ", fun() -> monitor(process, ", pick(["n", "{n, node()}"]), pick(["", options(), options()]), ") end)"], M);
+call(7, M) -> made(["ended(monitor(process, ", pick(["P3", "nobody", "{nobody, node()}"]), options(), "))"], M);
 call(8, M) -> made(pick(["came(erlang:start_timer(1, self(), x))", "erlang:start_timer(5, P3, x)", "erlang:send_after(0, P3, {m, 0})"]), M);
 call(9, #made{choices = C} = M) when C > 0 -> made("settled(erlang:start_timer(1, self(), x))", M#made{choices = C - 1});
 call(10, #made{others = [_ | _] = Others, choices = 2} = M) ->

@@ -2,7 +2,7 @@
 use Rattle.std.specs.Prelude.{◌≡◌, ℕ, get_or, refl}
 use Rattle.std.specs.Coded.{Coded, code_by, coded_ℕ}
 use Rattle.core_calls.specs.declared.call.CallKind.{CallKind}
-use Rattle.core_calls.specs.declared.call.CallKind.TheVariants.{Spawn, SpawnLink, SpawnMonitor, Bang, Send, Exit, Link, Unlink, Monitor, Demonitor, DemonitorWith, ProcessFlag, Register, Unregister, Whereis, IsProcessAlive, MakeRef, MonitorWith, Alias, AliasWith, Unalias, StartTimer, SendAfter, CancelTimer, ReadTimer, New, Lookup, Member, LookupElement, First, Last, Next, Prev, TableToList, Insert, InsertNew, DeleteTable, DeleteKey, DeleteObject, DeleteAllObjects, Take, UpdateCounter, UpdateElement, GiveAway, SetOptions, Info}
+use Rattle.core_calls.specs.declared.call.CallKind.TheVariants.{Spawn, SpawnLink, SpawnMonitor, Bang, Send, Exit, Link, Unlink, Monitor, Demonitor, DemonitorWith, ProcessFlag, Register, Unregister, Whereis, IsProcessAlive, MakeRef, MonitorWith, Alias, AliasWith, Unalias, StartTimer, SendAfter, CancelTimer, ReadTimer, Registered, ProcessInfo, New, Lookup, Member, LookupElement, First, Last, Next, Prev, TableToList, Insert, InsertNew, DeleteTable, DeleteKey, DeleteObject, DeleteAllObjects, Take, UpdateCounter, UpdateCounterWith, UpdateElement, GiveAway, SetOptions, Info, InfoAll}
 use Rattle.core_calls.specs.Calls as world
 use Rattle.core_calls.specs.declared.pure.PureCall.{PureCall}
 use Rattle.core_calls.specs.declared.pure.PureCall.TheVariants as calls
@@ -35,27 +35,31 @@ number_of_call StartTimer = 21
 number_of_call SendAfter = 22
 number_of_call CancelTimer = 23
 number_of_call ReadTimer = 24
-number_of_call New = 25
-number_of_call Lookup = 26
-number_of_call Member = 27
-number_of_call LookupElement = 28
-number_of_call First = 29
-number_of_call Last = 30
-number_of_call Next = 31
-number_of_call Prev = 32
-number_of_call TableToList = 33
-number_of_call Insert = 34
-number_of_call InsertNew = 35
-number_of_call DeleteTable = 36
-number_of_call DeleteKey = 37
-number_of_call DeleteObject = 38
-number_of_call DeleteAllObjects = 39
-number_of_call Take = 40
-number_of_call UpdateCounter = 41
-number_of_call UpdateElement = 42
-number_of_call GiveAway = 43
-number_of_call SetOptions = 44
-number_of_call Info = 45
+number_of_call Registered = 25
+number_of_call ProcessInfo = 26
+number_of_call New = 27
+number_of_call Lookup = 28
+number_of_call Member = 29
+number_of_call LookupElement = 30
+number_of_call First = 31
+number_of_call Last = 32
+number_of_call Next = 33
+number_of_call Prev = 34
+number_of_call TableToList = 35
+number_of_call Insert = 36
+number_of_call InsertNew = 37
+number_of_call DeleteTable = 38
+number_of_call DeleteKey = 39
+number_of_call DeleteObject = 40
+number_of_call DeleteAllObjects = 41
+number_of_call Take = 42
+number_of_call UpdateCounter = 43
+number_of_call UpdateCounterWith = 44
+number_of_call UpdateElement = 45
+number_of_call GiveAway = 46
+number_of_call SetOptions = 47
+number_of_call Info = 48
+number_of_call InfoAll = 49
 
 abbrev pub call_of_number : ℕ → CallKind
 call_of_number n = get_or world.calls n Spawn
@@ -86,6 +90,8 @@ call_of_number-number_of_call StartTimer = refl
 call_of_number-number_of_call SendAfter = refl
 call_of_number-number_of_call CancelTimer = refl
 call_of_number-number_of_call ReadTimer = refl
+call_of_number-number_of_call Registered = refl
+call_of_number-number_of_call ProcessInfo = refl
 call_of_number-number_of_call New = refl
 call_of_number-number_of_call Lookup = refl
 call_of_number-number_of_call Member = refl
@@ -103,10 +109,12 @@ call_of_number-number_of_call DeleteObject = refl
 call_of_number-number_of_call DeleteAllObjects = refl
 call_of_number-number_of_call Take = refl
 call_of_number-number_of_call UpdateCounter = refl
+call_of_number-number_of_call UpdateCounterWith = refl
 call_of_number-number_of_call UpdateElement = refl
 call_of_number-number_of_call GiveAway = refl
 call_of_number-number_of_call SetOptions = refl
 call_of_number-number_of_call Info = refl
+call_of_number-number_of_call InfoAll = refl
 
 abbrev pub coded_call : Coded CallKind
 coded_call = code_by ℕ coded_ℕ number_of_call call_of_number call_of_number-number_of_call

@@ -2,7 +2,7 @@
 use Rattle.std.specs.Prelude.{ℕ, Bool, ◌==◌, ◌&&◌, if◌then◌else◌, List, [], ◌∷◌, Option, Some, None, codes}
 use Rattle.std.specs.Cmp.Lexicographic.{pointwise}
 use Rattle.core_calls.specs.declared.call.CallKind.{CallKind}
-use Rattle.core_calls.specs.declared.call.CallKind.TheVariants.{Spawn, SpawnLink, SpawnMonitor, Bang, Send, Exit, Link, Unlink, Monitor, Demonitor, DemonitorWith, ProcessFlag, Register, Unregister, Whereis, IsProcessAlive, MakeRef, MonitorWith, Alias, AliasWith, Unalias, StartTimer, SendAfter, CancelTimer, ReadTimer, New, Lookup, Member, LookupElement, First, Last, Next, Prev, TableToList, Insert, InsertNew, DeleteTable, DeleteKey, DeleteObject, DeleteAllObjects, Take, UpdateCounter, UpdateElement, GiveAway, SetOptions, Info}
+use Rattle.core_calls.specs.declared.call.CallKind.TheVariants.{Spawn, SpawnLink, SpawnMonitor, Bang, Send, Exit, Link, Unlink, Monitor, Demonitor, DemonitorWith, ProcessFlag, Register, Unregister, Whereis, IsProcessAlive, MakeRef, MonitorWith, Alias, AliasWith, Unalias, StartTimer, SendAfter, CancelTimer, ReadTimer, Registered, ProcessInfo, New, Lookup, Member, LookupElement, First, Last, Next, Prev, TableToList, Insert, InsertNew, DeleteTable, DeleteKey, DeleteObject, DeleteAllObjects, Take, UpdateCounter, UpdateCounterWith, UpdateElement, GiveAway, SetOptions, Info, InfoAll}
 
 -- the name of a call's module and function, and the number of its arguments
 pub record Signature : Type 0 where
@@ -43,6 +43,8 @@ signature StartTimer = process_call (codes "start_timer") 3
 signature SendAfter = process_call (codes "send_after") 3
 signature CancelTimer = process_call (codes "cancel_timer") 1
 signature ReadTimer = process_call (codes "read_timer") 1
+signature Registered = process_call (codes "registered") 0
+signature ProcessInfo = process_call (codes "process_info") 2
 signature New = table_call (codes "new") 2
 signature Lookup = table_call (codes "lookup") 2
 signature Member = table_call (codes "member") 2
@@ -60,14 +62,16 @@ signature DeleteObject = table_call (codes "delete_object") 2
 signature DeleteAllObjects = table_call (codes "delete_all_objects") 1
 signature Take = table_call (codes "take") 2
 signature UpdateCounter = table_call (codes "update_counter") 3
+signature UpdateCounterWith = table_call (codes "update_counter") 4
 signature UpdateElement = table_call (codes "update_element") 3
 signature GiveAway = table_call (codes "give_away") 3
 signature SetOptions = table_call (codes "setopts") 2
 signature Info = table_call (codes "info") 2
+signature InfoAll = table_call (codes "info") 1
 
 -- all of the calls, each once
 abbrev pub calls : List CallKind
-calls = Spawn ∷ SpawnLink ∷ SpawnMonitor ∷ Bang ∷ Send ∷ Exit ∷ Link ∷ Unlink ∷ Monitor ∷ Demonitor ∷ DemonitorWith ∷ ProcessFlag ∷ Register ∷ Unregister ∷ Whereis ∷ IsProcessAlive ∷ MakeRef ∷ MonitorWith ∷ Alias ∷ AliasWith ∷ Unalias ∷ StartTimer ∷ SendAfter ∷ CancelTimer ∷ ReadTimer ∷ New ∷ Lookup ∷ Member ∷ LookupElement ∷ First ∷ Last ∷ Next ∷ Prev ∷ TableToList ∷ Insert ∷ InsertNew ∷ DeleteTable ∷ DeleteKey ∷ DeleteObject ∷ DeleteAllObjects ∷ Take ∷ UpdateCounter ∷ UpdateElement ∷ GiveAway ∷ SetOptions ∷ Info ∷ []
+calls = Spawn ∷ SpawnLink ∷ SpawnMonitor ∷ Bang ∷ Send ∷ Exit ∷ Link ∷ Unlink ∷ Monitor ∷ Demonitor ∷ DemonitorWith ∷ ProcessFlag ∷ Register ∷ Unregister ∷ Whereis ∷ IsProcessAlive ∷ MakeRef ∷ MonitorWith ∷ Alias ∷ AliasWith ∷ Unalias ∷ StartTimer ∷ SendAfter ∷ CancelTimer ∷ ReadTimer ∷ Registered ∷ ProcessInfo ∷ New ∷ Lookup ∷ Member ∷ LookupElement ∷ First ∷ Last ∷ Next ∷ Prev ∷ TableToList ∷ Insert ∷ InsertNew ∷ DeleteTable ∷ DeleteKey ∷ DeleteObject ∷ DeleteAllObjects ∷ Take ∷ UpdateCounter ∷ UpdateCounterWith ∷ UpdateElement ∷ GiveAway ∷ SetOptions ∷ Info ∷ InfoAll ∷ []
 
 -- ---- calls by name
 

@@ -59,6 +59,10 @@ pub enum CallKind {
     CancelTimer,
     /// `erlang:read_timer/1`: how long a timer has to run.
     ReadTimer,
+    /// `erlang:registered/0`: all names of processes.
+    Registered,
+    /// `erlang:process_info/2`: one item about a process.
+    ProcessInfo,
     /// `ets:new/2`: makes a table.
     New,
     /// `ets:lookup/2`: the objects under a key.
@@ -91,9 +95,11 @@ pub enum CallKind {
     DeleteAllObjects,
     /// `ets:take/2`: removes the objects under a key, and gives them.
     Take,
-    /// `ets:update_counter/3`: adds to an element.
+    /// `ets:update_counter/3`: adds to elements.
     UpdateCounter,
-    /// `ets:update_element/3`: replaces an element.
+    /// `ets:update_counter/4`: adds to elements, of a default object where none is there.
+    UpdateCounterWith,
+    /// `ets:update_element/3`: replaces elements.
     UpdateElement,
     /// `ets:give_away/3`: gives a table another owner.
     GiveAway,
@@ -101,10 +107,12 @@ pub enum CallKind {
     SetOptions,
     /// `ets:info/2`: one item about a table.
     Info,
+    /// `ets:info/1`: all items about a table.
+    InfoAll,
 }
 
 /// Each of the calls once.
-pub const CALLS: [CallKind; 46] = [
+pub const CALLS: [CallKind; 50] = [
     CallKind::Spawn,
     CallKind::SpawnLink,
     CallKind::SpawnMonitor,
@@ -130,6 +138,8 @@ pub const CALLS: [CallKind; 46] = [
     CallKind::SendAfter,
     CallKind::CancelTimer,
     CallKind::ReadTimer,
+    CallKind::Registered,
+    CallKind::ProcessInfo,
     CallKind::New,
     CallKind::Lookup,
     CallKind::Member,
@@ -147,10 +157,12 @@ pub const CALLS: [CallKind; 46] = [
     CallKind::DeleteAllObjects,
     CallKind::Take,
     CallKind::UpdateCounter,
+    CallKind::UpdateCounterWith,
     CallKind::UpdateElement,
     CallKind::GiveAway,
     CallKind::SetOptions,
     CallKind::Info,
+    CallKind::InfoAll,
 ];
 
 impl CallKind {
@@ -184,6 +196,8 @@ impl CallKind {
             CallKind::SendAfter => process_call("send_after", 3),
             CallKind::CancelTimer => process_call("cancel_timer", 1),
             CallKind::ReadTimer => process_call("read_timer", 1),
+            CallKind::Registered => process_call("registered", 0),
+            CallKind::ProcessInfo => process_call("process_info", 2),
             CallKind::New => table_call("new", 2),
             CallKind::Lookup => table_call("lookup", 2),
             CallKind::Member => table_call("member", 2),
@@ -201,10 +215,12 @@ impl CallKind {
             CallKind::DeleteAllObjects => table_call("delete_all_objects", 1),
             CallKind::Take => table_call("take", 2),
             CallKind::UpdateCounter => table_call("update_counter", 3),
+            CallKind::UpdateCounterWith => table_call("update_counter", 4),
             CallKind::UpdateElement => table_call("update_element", 3),
             CallKind::GiveAway => table_call("give_away", 3),
             CallKind::SetOptions => table_call("setopts", 2),
             CallKind::Info => table_call("info", 2),
+            CallKind::InfoAll => table_call("info", 1),
         }
     }
 

@@ -12,7 +12,7 @@ pub(crate) struct Signature {
     pub module_name: &'static str,
     // The name of the function, as `insert`.
     pub function_name: &'static str,
-    // The number of the arguments, 0 to 3.
+    // The number of the arguments, 0 to 4.
     pub arity: usize,
 }
 

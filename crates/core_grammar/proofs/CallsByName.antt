@@ -187,6 +187,8 @@ world_again kinds.StartTimer own = refl
 world_again kinds.SendAfter own = refl
 world_again kinds.CancelTimer own = refl
 world_again kinds.ReadTimer own = refl
+world_again kinds.Registered own = refl
+world_again kinds.ProcessInfo own = refl
 world_again kinds.New own = refl
 world_again kinds.Lookup own = refl
 world_again kinds.Member own = refl
@@ -204,10 +206,12 @@ world_again kinds.DeleteObject own = refl
 world_again kinds.DeleteAllObjects own = refl
 world_again kinds.Take own = refl
 world_again kinds.UpdateCounter own = refl
+world_again kinds.UpdateCounterWith own = refl
 world_again kinds.UpdateElement own = refl
 world_again kinds.GiveAway own = refl
 world_again kinds.SetOptions own = refl
 world_again kinds.Info own = refl
+world_again kinds.InfoAll own = refl
 
 pure_again : (kind : PureCall) (own : List ℕ) → callee_named own (pure_signature kind).module_name (pure_signature kind).function_name (pure_signature kind).arity ≡ Some (callees.Pure kind)
 unfolding callee_named call_with pure_call_with

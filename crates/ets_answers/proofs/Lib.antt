@@ -1,3 +1,6 @@
-pub mod Behind
+pub mod Additions
+pub mod AfterKey
+pub mod Counting
+pub mod Finding
 pub mod Kept
 pub mod Lines

@@ -12,8 +12,8 @@ ghost use Rattle.world_model.specs.Walks.{key_or_end};
 ghost use Rattle.ets_answers.specs.At.{IsAnswerAt};
 ghost use Rattle.ets_answers.specs.inside.Held.{IsHeldAnswer, IsHeldSum};
 
-use crate::counters::counter_of;
-use crate::items::{item_answer, truth};
+use crate::counted::counted_by;
+use crate::items::{item_answer, items_answer, truth};
 use crate::rules::is_bag;
 use ets_calls::{Increment, TableCall};
 use ets_store::{Object, Rows, Table};
@@ -21,7 +21,7 @@ use std::alloc::{AllocError, Global};
 use term_core::{Term, list_onto};
 
 /// What a call answers where no rule refuses it, or `AllocError` if there is no memory for it, or where the size or the
-/// position that `info/2` reports has more than the 63 bits of an integer. It is what the table says before the call
+/// position that `info` reports has more than the 63 bits of an integer. It is what the table says before the call
 /// writes.
 pub fn answer(alloc: Global, table: &Table, call: &TableCall) -> Result<Term, AllocError>
     ensures { IfOk result (λ answer. IsAnswerAt table.now (call_in call.now) (meaning_of answer)) }
@@ -49,11 +49,14 @@ fn answer_of(alloc: Global, table: &Table, call: &TableCall) -> Result<Term, All
         TableCall::DeleteObject(_) => Ok(truth(true)),
         TableCall::DeleteAll => Ok(truth(true)),
         TableCall::Take(key) => table.rows.lookup(alloc, key),
-        TableCall::UpdateCounter(key, increment) => Ok(sum_answer(table, key, *increment)),
+        TableCall::UpdateCounter(key, increment, default) => {
+            sum_answer(alloc, table, key, increment, default)
+        }
         TableCall::UpdateElement(key, _) => Ok(truth(table.rows.has_key(key))),
         TableCall::GiveAway(_, _) => Ok(truth(true)),
         TableCall::SetOptions(_) => Ok(truth(true)),
         TableCall::Info(item) => item_answer(table, alloc, *item),
+        TableCall::InfoAll => items_answer(table, alloc),
     }
 }
 
@@ -84,8 +87,8 @@ pub(crate) fn parts_at(
     Ok(parts)
 }
 
-// The first of several terms, or `'true'`.
-fn first_or_ok(terms: Vec<Term>) -> Result<Term, AllocError>
+/// The first of several terms, or `'true'`.
+pub(crate) fn first_or_ok(terms: Vec<Term>) -> Result<Term, AllocError>
     ensures { IfOk result (λ answer. meaning_of answer ≡ value_or_ok (first_of (map meaning_of terms.items))) }
 {
     match terms.as_slice().first() {
@@ -113,14 +116,18 @@ fn element_answer(
     first_or_ok(parts)
 }
 
-// What `update_counter/3` answers where it is not refused: the sum.
-fn sum_answer(table: &Table, key: &Term, increment: Increment) -> Term
-    ensures { IsHeldSum table.now (meaning_of key.now) (increment_in increment) (meaning_of result) }
+// What `update_counter/3` and `update_counter/4` answer where they are not refused: the sum, or the list of sums.
+fn sum_answer(
+    alloc: Global,
+    table: &Table,
+    key: &Term,
+    increment: &Increment,
+    default: &Option<Option<Object>>,
+) -> Result<Term, AllocError>
+    ensures { IfOk result (λ answer. IsHeldSum table.now (meaning_of key.now) (increment_in increment.now) default.now (meaning_of answer)) }
 {
-    match counter_of(table, key, increment) {
-        Ok(sum) => Term::Int(sum),
-        Err(_) => truth(true),
-    }
+    let counted = counted_by(alloc, table, key, increment, default)?;
+    counted.answer.copy()
 }
 
 /// Whether one of the objects that are given has a key that is there. It takes no memory.

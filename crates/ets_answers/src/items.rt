@@ -1,6 +1,6 @@
-// What is reported about a table (ets manual, `info/2`), and the terms that answers are made of.
-ghost use Rattle.std.specs.Prelude.{◌≡◌, IfOk, codes, length};
-ghost use Rattle.ets_answers.specs.inside.Held.{held_item};
+// What is reported about a table (ets manual, `info/1`, `info/2`), and the terms that answers are made of.
+ghost use Rattle.std.specs.Prelude.{◌≡◌, ◌∷◌, ◌++◌, [], IfOk, OnOk, codes, length, map};
+ghost use Rattle.ets_answers.specs.inside.Held.{held_item, held_items, held_pair};
 ghost use Rattle.ets_store.specs.Tables.{settings_in, heir_in};
 ghost use Rattle.term_core.specs.Term.{meaning_of};
 ghost use Rattle.world_model.specs.Ends.{heir_pid};
@@ -10,7 +10,7 @@ ghost use Rattle.world_model.specs.Walks.{kind_name, protection_name};
 
 use ets_store::{Heir, Table};
 use std::alloc::{AllocError, Global};
-use term_core::{Term, Word};
+use term_core::{Term, Terms, Word, list_onto};
 use world_model::table::{Item, Kind, Protection};
 
 /// The boolean as a term. It takes no memory.
@@ -96,4 +96,38 @@ pub(crate) fn item_answer(
         Item::Heir => heir_or_none(alloc, &table.heir),
         Item::NamedTable => Ok(truth(table.is_named)),
     }
+}
+
+// Adds what is reported under an item, with its name, after other pairs.
+fn add_pair(
+    table: &Table,
+    alloc: Global,
+    name: &str,
+    item: Item,
+    pairs: &mut Vec<Term>,
+) -> Result<(), AllocError>
+    ensures { OnOk result (map meaning_of pairs.new.items ≡ map meaning_of pairs.old.items ++ held_pair (settings_in table.now) table.now.rows.rows (name.now, item) ∷ []) }
+{
+    let mut parts = Vec::with_capacity(alloc, 2)?;
+    parts.push(Term::atom(alloc, name)?)?;
+    parts.push(item_answer(table, alloc, Some(item))?)?;
+    pairs.push(Term::tuple(alloc, Terms::from_vec(parts))?)?;
+    Ok(())
+}
+
+/// What is reported about a table under all items, each with its name, or `AllocError` if there is no memory for it, or
+/// it has a number of more than 63 bits.
+pub(crate) fn items_answer(table: &Table, alloc: Global) -> Result<Term, AllocError>
+    ensures { IfOk result (λ answer. meaning_of answer ≡ held_items (settings_in table.now) table.now.rows.rows) }
+{
+    let mut pairs = Vec::with_capacity(alloc, 8)?;
+    add_pair(table, alloc, "owner", Item::Owner, &mut pairs)?;
+    add_pair(table, alloc, "heir", Item::Heir, &mut pairs)?;
+    add_pair(table, alloc, "name", Item::Name, &mut pairs)?;
+    add_pair(table, alloc, "size", Item::Size, &mut pairs)?;
+    add_pair(table, alloc, "named_table", Item::NamedTable, &mut pairs)?;
+    add_pair(table, alloc, "type", Item::Type, &mut pairs)?;
+    add_pair(table, alloc, "keypos", Item::Position, &mut pairs)?;
+    add_pair(table, alloc, "protection", Item::Protection, &mut pairs)?;
+    list_onto(alloc, pairs, Term::Nil)
 }

@@ -51,10 +51,13 @@ fn rule_of(table: &Table, call: &TableCall, living: &BTreeSet<Pid>) -> Option<Ru
         TableCall::DeleteObject(object) => object_rule(table.position(), object),
         TableCall::DeleteAll => None,
         TableCall::Take(_) => None,
-        TableCall::UpdateCounter(key, increment) => counter_rule(table, key, *increment),
-        TableCall::UpdateElement(key, change) => update_rule(table, key, change),
+        TableCall::UpdateCounter(key, increment, default) => {
+            counter_rule(table, key, increment, default)
+        }
+        TableCall::UpdateElement(key, changes) => update_rule(table, key, changes),
         TableCall::GiveAway(to, _) => target_rule(table, to, living),
         TableCall::SetOptions(heirs) => heirs_rule(heirs),
         TableCall::Info(item) => item_rule(*item),
+        TableCall::InfoAll => None,
     }
 }

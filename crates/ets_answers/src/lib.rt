@@ -3,6 +3,7 @@
 #![tactic(auto)]
 
 pub mod answers;
+pub mod counted;
 pub mod counters;
 pub mod items;
 pub mod judging;
@@ -10,6 +11,7 @@ pub mod rules;
 pub mod touched;
 
 pub use answers::{answer, one_is_there};
+pub use counted::{Counted, counted_by};
 pub use judging::argument_rule;
 pub use rules::{caller_rule, class_of, rule_of_none};
 pub use touched::{Touched, rows_read, rows_written};

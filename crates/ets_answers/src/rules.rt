@@ -3,14 +3,16 @@ ghost use Rattle.std.specs.BTreeSet.{contains};
 ghost use Rattle.std.specs.List.{list_any};
 ghost use Rattle.std.specs.Prelude.{◌≡◌, false, map, option_map};
 ghost use Rattle.ets_answers.specs.inside.Held.{held_target, held_walk};
-ghost use Rattle.ets_calls.specs.Arguments.{change_in};
+ghost use Rattle.ets_calls.specs.Arguments.{changes_in};
 ghost use Rattle.ets_calls.specs.Calls.{call_in};
+ghost use Rattle.ets_store.specs.Parts.{part_in};
 ghost use Rattle.ets_store.specs.Tables.{settings_in, heir_in};
+ghost use Rattle.term_core.specs.Meaning.{Meaning};
 ghost use Rattle.term_core.specs.Order.{order_of_lists};
 ghost use Rattle.term_core.specs.Term.{meaning_of};
 ghost use Rattle.world_model.specs.TableAccess.{class_of, access_rule, rule_of_none};
 ghost use Rattle.world_model.specs.Names.{same_pid};
-ghost use Rattle.world_model.specs.Objects.{objects_rule, one_object, place_rule, element_rule, is_key_or_none, change_rule, update_rule};
+ghost use Rattle.world_model.specs.Objects.{objects_rule, one_object, place_rule, element_rule, is_key_or_none, is_misplaced, changes_rule, unplaced_rule, update_rule};
 ghost use Rattle.world_model.specs.Ownership.{gift_rule, heirs_rule};
 ghost use Rattle.world_model.specs.Rows.{is_short, under};
 ghost use Rattle.world_model.specs.Tables.{is_bag, is_ordered};
@@ -45,10 +47,10 @@ pub fn class_of(call: &TableCall) -> Class
         | TableCall::DeleteObject(_)
         | TableCall::DeleteAll
         | TableCall::Take(_)
-        | TableCall::UpdateCounter(_, _)
+        | TableCall::UpdateCounter(_, _, _)
         | TableCall::UpdateElement(_, _) => Class::Write,
         TableCall::GiveAway(_, _) | TableCall::SetOptions(_) => Class::Owners,
-        TableCall::Info(_) => Class::Open,
+        TableCall::Info(_) | TableCall::InfoAll => Class::Open,
     }
 }
 
@@ -101,8 +103,8 @@ pub fn caller_rule(class: Class, table: &Table, caller: &Pid) -> Option<Rule>
     }
 }
 
-// Whether an object has no part at a position.
-fn is_short(position: usize, object: &Object) -> bool
+/// Whether an object has no part at a position.
+pub(crate) fn is_short(position: usize, object: &Object) -> bool
     ensures { result ≡ is_short position object.now }
 {
     match object.part(position) {
@@ -213,28 +215,79 @@ pub(crate) fn is_key_or_none(key: usize, position: usize) -> bool
     position == 0 || position == key
 }
 
-// The rule that refuses a change of an element where keys have a position: it is no change, or at no position
-// that may be written, or an object there is too short.
-fn change_rule(key: usize, change: &Option<(usize, Term)>, there: &[Object]) -> Option<Rule>
-    ensures { result ≡ change_rule key (change_in change.now) there.now }
+// Whether an object has no part that may be written at this position, where keys have another one.
+fn is_misplaced(key: usize, object: &Object, position: usize) -> bool
+    ensures { (value : Meaning) → result ≡ is_misplaced key object.now (position, value) }
 {
-    let Some((position, _)) = change else {
-        return Some(Rule::BadPosition);
-    };
-    if is_key_or_none(key, *position) {
-        return Some(Rule::BadPosition);
-    }
-    place_rule(*position, there)
+    is_key_or_none(key, position) || is_short(position, object)
 }
 
-/// The rule that refuses `update_element/3`: the table is a bag, or the change is refused.
-pub(crate) fn update_rule(table: &Table, key: &Term, change: &Option<(usize, Term)>) -> Option<Rule>
-    ensures { result ≡ update_rule (settings_in table.now) (change_in change.now) (under table.now.rows.rows (meaning_of key.now)) }
+// Whether one of these changes is where an object has no part that may be written.
+fn one_is_misplaced(key: usize, object: &Object, changes: &[(usize, Term)]) -> bool
+    ensures { result ≡ list_any (is_misplaced key object.now) (map part_in changes.now) }
+{
+    for change in changes {
+        if is_misplaced(key, object, change.0) {
+            return true;
+        }
+    }
+    false
+}
+
+// The rule that refuses changes of an object where keys have a position: they are no changes, or one is where no part
+// is that may be written.
+fn changes_rule(key: usize, changes: &Option<Vec<(usize, Term)>>, object: &Object) -> Option<Rule>
+    ensures { result ≡ changes_rule key (changes_in changes.now) object.now }
+{
+    let Some(changes) = changes else {
+        return Some(Rule::BadPosition);
+    };
+    if one_is_misplaced(key, object, changes.as_slice()) {
+        return Some(Rule::BadPosition);
+    }
+    None
+}
+
+// Whether one of these changes is where no part may be written.
+fn one_is_unplaced(key: usize, changes: &[(usize, Term)]) -> bool
+    ensures { result ≡ list_any (λ change. is_key_or_none key change.0) (map part_in changes.now) }
+{
+    for change in changes {
+        if is_key_or_none(key, change.0) {
+            return true;
+        }
+    }
+    false
+}
+
+// The rule that refuses changes where the key is missing: they are no changes, or one is where no part may be written.
+fn unplaced_rule(key: usize, changes: &Option<Vec<(usize, Term)>>) -> Option<Rule>
+    ensures { result ≡ unplaced_rule key (changes_in changes.now) }
+{
+    let Some(changes) = changes else {
+        return Some(Rule::BadPosition);
+    };
+    if one_is_unplaced(key, changes.as_slice()) {
+        return Some(Rule::BadPosition);
+    }
+    None
+}
+
+/// The rule that refuses `update_element/3`: the table is a bag, or the changes are refused.
+pub(crate) fn update_rule(
+    table: &Table,
+    key: &Term,
+    changes: &Option<Vec<(usize, Term)>>,
+) -> Option<Rule>
+    ensures { result ≡ update_rule (settings_in table.now) (changes_in changes.now) (under table.now.rows.rows (meaning_of key.now)) }
 {
     if is_bag(table.kind()) {
         return Some(Rule::BagRefused);
     }
-    change_rule(table.position(), change, table.rows.objects(key))
+    match table.rows.objects(key).first() {
+        Some(object) => changes_rule(table.position(), changes, object),
+        None => unplaced_rule(table.position(), changes),
+    }
 }
 
 // The rule that refuses a process that is given a table: it is not alive, or the owner.

@@ -8,8 +8,8 @@ ghost use Rattle.ets_store.specs.Tables.{settings_in};
 ghost use Rattle.term_core.specs.Term.{meaning_of};
 ghost use Rattle.world_model.specs.Names.{Ref};
 ghost use Rattle.world_model.specs.Objects.{given, keys_asked};
-ghost use Rattle.world_model.specs.Rows.{parts_at};
-ghost use Rattle.world_model.specs.RowsLeft.{key_of_object};
+ghost use Rattle.world_model.specs.Rows.{parts_at, under};
+ghost use Rattle.world_model.specs.RowsLeft.{if_there, key_of_object};
 ghost use Rattle.world_model.specs.TableLines.{rows_read};
 ghost use Rattle.world_model.specs.RowFootprints.{RowsOfKeys};
 ghost use Rattle.world_model.specs.Walks.{read_by_item};
@@ -60,16 +60,17 @@ pub fn rows_read(
         TableCall::DeleteObject(_) => Ok(Touched::NoRow),
         TableCall::DeleteAll => Ok(Touched::NoRow),
         TableCall::Take(key) => row_of(alloc, key),
-        TableCall::UpdateCounter(key, _) => row_of(alloc, key),
+        TableCall::UpdateCounter(key, _, _) => row_of(alloc, key),
         TableCall::UpdateElement(key, _) => row_of(alloc, key),
         TableCall::GiveAway(_, _) => Ok(Touched::NoRow),
         TableCall::SetOptions(_) => Ok(Touched::NoRow),
         TableCall::Info(item) => Ok(read_by_item(*item)),
+        TableCall::InfoAll => Ok(Touched::EachRow),
     }
 }
 
 /// The rows that a call writes where no rule refuses it, or `AllocError` if there is no memory for their keys. An
-/// `insert_new/2` writes none where one of its keys is there.
+/// `insert_new/2` writes none where one of its keys is there, an `update_element/3` where its key is missing.
 pub fn rows_written(alloc: Global, table: &Table, call: &TableCall) -> Result<Touched, AllocError>
     ensures { IfOk result (λ touched. AreWrittenAt table.now (call_in call.now) (touch_in touched)) }
 {
@@ -96,11 +97,12 @@ fn written_of(alloc: Global, table: &Table, call: &TableCall) -> Result<Touched,
         TableCall::DeleteObject(object) => row_of_object(alloc, table, object),
         TableCall::DeleteAll => Ok(Touched::EachRow),
         TableCall::Take(key) => row_of(alloc, key),
-        TableCall::UpdateCounter(key, _) => row_of(alloc, key),
-        TableCall::UpdateElement(key, _) => row_of(alloc, key),
+        TableCall::UpdateCounter(key, _, _) => row_of(alloc, key),
+        TableCall::UpdateElement(key, _) => row_if_there(alloc, table, key),
         TableCall::GiveAway(_, _) => Ok(Touched::NoRow),
         TableCall::SetOptions(_) => Ok(Touched::NoRow),
         TableCall::Info(_) => Ok(Touched::NoRow),
+        TableCall::InfoAll => Ok(Touched::NoRow),
     }
 }
 
@@ -111,6 +113,16 @@ fn row_of(alloc: Global, key: &Term) -> Result<Touched, AllocError>
     let mut keys = Vec::with_capacity(alloc, 1)?;
     keys.push(key.copy()?)?;
     Ok(Touched::RowsOfKeys(keys))
+}
+
+// The row of a key, where it is there.
+fn row_if_there(alloc: Global, table: &Table, key: &Term) -> Result<Touched, AllocError>
+    ensures { IfOk result (λ touched. touch_in touched ≡ if_there (under table.now.rows.rows (meaning_of key.now)) (meaning_of key.now)) }
+{
+    if table.rows.has_key(key) {
+        return row_of(alloc, key);
+    }
+    Ok(Touched::NoRow)
 }
 
 // The keys of the objects that are given.

@@ -1,4 +1,4 @@
--- Calls without arguments, and with more than three.
+-- Calls without arguments, and with more than four.
 use Rattle.std.proofs.Common.{◌≡◌, ◌<◌, List, [], ◌∷◌, length, false, refl, arith}
 use Rattle.core_calls.specs.declared.call.CallKind.{CallKind}
 use Rattle.core_calls.specs.declared.call.CallKind.TheVariants as kinds
@@ -32,6 +32,8 @@ none_of_tables kinds.StartTimer = refl
 none_of_tables kinds.SendAfter = refl
 none_of_tables kinds.CancelTimer = refl
 none_of_tables kinds.ReadTimer = refl
+none_of_tables kinds.Registered = refl
+none_of_tables kinds.ProcessInfo = refl
 none_of_tables kinds.New = refl
 none_of_tables kinds.Lookup = refl
 none_of_tables kinds.Member = refl
@@ -49,19 +51,22 @@ none_of_tables kinds.DeleteObject = refl
 none_of_tables kinds.DeleteAllObjects = refl
 none_of_tables kinds.Take = refl
 none_of_tables kinds.UpdateCounter = refl
+none_of_tables kinds.UpdateCounterWith = refl
 none_of_tables kinds.UpdateElement = refl
 none_of_tables kinds.GiveAway = refl
 none_of_tables kinds.SetOptions = refl
 none_of_tables kinds.Info = refl
+none_of_tables kinds.InfoAll = refl
 
 pub too_few : (kind : CallKind) (ms : List Meaning) → length ms < 1 → is_of_tables (call_of kind ms) ≡ false
 too_few kind [] few = none_of_tables kind
 too_few kind (a ∷ ms) few = absurd (omega arith)
 
--- nor is one with more than three
-pub too_many : (kind : CallKind) (ms : List Meaning) → 3 < length ms → is_of_tables (call_of kind ms) ≡ false
+-- nor is one with more than four
+pub too_many : (kind : CallKind) (ms : List Meaning) → 4 < length ms → is_of_tables (call_of kind ms) ≡ false
 too_many kind [] more = absurd (omega arith)
 too_many kind (a ∷ []) more = absurd (omega arith)
 too_many kind (a ∷ b ∷ []) more = absurd (omega arith)
 too_many kind (a ∷ b ∷ c ∷ []) more = absurd (omega arith)
-too_many kind (a ∷ b ∷ c ∷ d ∷ ms) more = refl
+too_many kind (a ∷ b ∷ c ∷ d ∷ []) more = absurd (omega arith)
+too_many kind (a ∷ b ∷ c ∷ d ∷ e ∷ ms) more = refl

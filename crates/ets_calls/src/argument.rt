@@ -1,12 +1,12 @@
 // What the arguments of the calls of tables are (ets manual). An argument that is not of its kind is none.
 ghost use Rattle.std.specs.Prelude.{◌≡◌, IfOk};
-ghost use Rattle.ets_calls.specs.Arguments.{argument_in, increment_in, change_in};
+ghost use Rattle.ets_calls.specs.Arguments.{argument_in};
 ghost use Rattle.term_core.specs.Term.{meaning_of};
-ghost use Rattle.world_model.specs.Calls.{argument_of, increment_of, increment_of_parts, change_of, change_of_parts};
+ghost use Rattle.world_model.specs.Calls.{argument_of};
 ghost use Rattle.world_model.specs.Terms.{atom_in, process_in, position_of, positive_in};
 
 use std::alloc::AllocError;
-use term_core::{Atom, Pid, RefId, Term, Terms};
+use term_core::{Atom, Pid, RefId, Term};
 
 /// By what a call names its table.
 #[derive(Drop)]
@@ -17,17 +17,6 @@ pub enum TableArgument {
     ByReference(RefId),
     /// What is neither.
     ByNothing,
-}
-
-/// What `update_counter/3` adds.
-#[derive(Clone, Copy, Debug, PartialEq, Eq)]
-pub enum Increment {
-    /// An integer, to the element after the key.
-    Behind(i64),
-    /// An integer, to the element at a position; 0 means a position below 1.
-    AtPlace(usize, i64),
-    /// Neither.
-    NotGiven,
 }
 
 impl TableArgument {
@@ -64,8 +53,8 @@ pub(crate) fn process_in(term: &Term) -> Result<Option<Pid>, AllocError>
     }
 }
 
-// A position, where 0 means what is below 1.
-fn position_of(number: i64) -> usize
+/// A position; 0 means what is below 1. It takes no memory.
+pub(crate) fn position_of(number: i64) -> usize
     ensures { result ≡ position_of number }
 {
     if number < 0 {
@@ -86,51 +75,4 @@ pub fn positive_in(term: &Term) -> Option<usize>
         return None;
     }
     Some(position)
-}
-
-impl Increment {
-    // What a tuple of these parts adds.
-    fn of_parts(parts: &Terms) -> Increment
-        ensures { increment_in result ≡ increment_of_parts parts.now }
-    {
-        match parts.as_slice() {
-            [Term::Int(position), Term::Int(number)] => {
-                Increment::AtPlace(position_of(*position), *number)
-            }
-            _ => Increment::NotGiven,
-        }
-    }
-
-    /// What a term adds: an integer, or a pair of a position and an integer (ets manual, `update_counter/3`).
-    /// It takes no memory.
-    pub fn of(term: &Term) -> Increment
-        ensures { increment_in result ≡ increment_of (meaning_of term.now) }
-    {
-        match term {
-            Term::Int(number) => Increment::Behind(*number),
-            Term::Tuple(parts) => Increment::of_parts(parts),
-            _ => Increment::NotGiven,
-        }
-    }
-}
-
-// The position and the value that a tuple of these parts is.
-fn change_of_parts(parts: &Terms) -> Result<Option<(usize, Term)>, AllocError>
-    ensures { IfOk result (λ change. change_in change ≡ change_of_parts parts.now) }
-{
-    match parts.as_slice() {
-        [Term::Int(position), value] => Ok(Some((position_of(*position), value.copy()?))),
-        _ => Ok(None),
-    }
-}
-
-/// Where an object is to change, and what is to be there: a pair with a position first, or `AllocError` where
-/// the copies of the value can no longer be counted (ets manual, `update_element/3`).
-pub fn change_of(term: &Term) -> Result<Option<(usize, Term)>, AllocError>
-    ensures { IfOk result (λ change. change_in change ≡ change_of (meaning_of term.now)) }
-{
-    match term {
-        Term::Tuple(parts) => change_of_parts(parts),
-        _ => Ok(None),
-    }
 }

@@ -1,6 +1,6 @@
 // The calls of tables as they are understood: which call, and what each argument is (the Erlang manual, module
 // `ets`). An argument that is not of its kind is `None`, or the variant that says so.
-use crate::argument::Increment;
+use crate::increment::Increment;
 use ets_store::{Heir, Object};
 use term_core::{Pid, Term};
 use world_model::table::Item;
@@ -38,14 +38,17 @@ pub enum TableCall {
     DeleteAll,
     /// `take/2`: the key.
     Take(Term),
-    /// `update_counter/3`: the key, and what is added.
-    UpdateCounter(Term, Increment),
-    /// `update_element/3`: the key, and the position with what is to be there, if they are such.
-    UpdateElement(Term, Option<(usize, Term)>),
+    /// `update_counter/3`, `update_counter/4`: the key, what is added, and the object that is taken where none is there,
+    /// if one is given, and if that is one.
+    UpdateCounter(Term, Increment, Option<Option<Object>>),
+    /// `update_element/3`: the key, and the positions with what is to be there, if they are such.
+    UpdateElement(Term, Option<Vec<(usize, Term)>>),
     /// `give_away/3`: the new owner, if it is a process, and the data that it is given.
     GiveAway(Option<Pid>, Term),
     /// `setopts/2`: the heirs, one after the other, if the options are such.
     SetOptions(Option<Vec<Option<Heir>>>),
     /// `info/2`: the item, if it is one.
     Info(Option<Item>),
+    /// `info/1`.
+    InfoAll,
 }

@@ -12,14 +12,14 @@ fn named_item(name: &str) -> Option<Item>
     ensures { result ≡ found_beside name.now known_items }
 {
     match name {
-        "name" => Some(Item::Name),
-        "type" => Some(Item::Type),
-        "protection" => Some(Item::Protection),
         "owner" => Some(Item::Owner),
-        "size" => Some(Item::Size),
-        "keypos" => Some(Item::Position),
         "heir" => Some(Item::Heir),
+        "name" => Some(Item::Name),
+        "size" => Some(Item::Size),
         "named_table" => Some(Item::NamedTable),
+        "type" => Some(Item::Type),
+        "keypos" => Some(Item::Position),
+        "protection" => Some(Item::Protection),
         _ => None,
     }
 }

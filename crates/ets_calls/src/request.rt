@@ -5,13 +5,15 @@ ghost use Rattle.ets_calls.specs.Calls.{call_in};
 ghost use Rattle.ets_calls.specs.Requests.{IsReadAs};
 ghost use Rattle.term_core.specs.Term.{meaning_of};
 ghost use Rattle.world_model.specs.Calls as calls;
-ghost use Rattle.world_model.specs.Calls.{call_of, call_of_one, call_of_two, call_of_three, argument_of};
+ghost use Rattle.world_model.specs.Calls.{call_of, call_of_one, call_of_two, call_of_three, call_of_four, argument_of};
 ghost use Rattle.world_model.specs.Tables.{options_of};
 ghost use Rattle.world_model.specs.Terms.{atom_in};
 
-use crate::argument::{Increment, TableArgument, change_of, name_in, positive_in, process_in};
+use crate::argument::{TableArgument, name_in, positive_in, process_in};
 use crate::call::TableCall;
+use crate::changes::changes_of;
 use crate::heirs::heirs_of;
+use crate::increment::Increment;
 use crate::items::item_of;
 use crate::objects::{object_in, objects_of};
 use crate::options::{TableOption, options_of};
@@ -47,6 +49,7 @@ fn of_one(kind: CallKind, table: &Term) -> Result<TableRequest, AllocError>
         CallKind::TableToList => on_table(table, TableCall::ToList),
         CallKind::DeleteTable => on_table(table, TableCall::DeleteTable),
         CallKind::DeleteAllObjects => on_table(table, TableCall::DeleteAll),
+        CallKind::InfoAll => on_table(table, TableCall::InfoAll),
         _ => Ok(TableRequest::Other),
     }
 }
@@ -86,6 +89,7 @@ fn of_two(
 
 // A call with three arguments.
 fn of_three(
+    alloc: Global,
     kind: CallKind,
     table: &Term,
     second: &Term,
@@ -100,15 +104,39 @@ fn of_three(
         ),
         CallKind::UpdateCounter => on_table(
             table,
-            TableCall::UpdateCounter(second.copy()?, Increment::of(third)),
+            TableCall::UpdateCounter(second.copy()?, Increment::of(alloc, third)?, None),
         ),
         CallKind::UpdateElement => on_table(
             table,
-            TableCall::UpdateElement(second.copy()?, change_of(third)?),
+            TableCall::UpdateElement(second.copy()?, changes_of(alloc, third)?),
         ),
         CallKind::GiveAway => on_table(
             table,
             TableCall::GiveAway(process_in(second)?, third.copy()?),
+        ),
+        _ => Ok(TableRequest::Other),
+    }
+}
+
+// A call with four arguments.
+fn of_four(
+    alloc: Global,
+    kind: CallKind,
+    table: &Term,
+    second: &Term,
+    third: &Term,
+    fourth: &Term,
+) -> Result<TableRequest, AllocError>
+    ensures { IfOk result (IsReadAs (call_of_four kind (meaning_of table.now) (meaning_of second.now) (meaning_of third.now) (meaning_of fourth.now))) }
+{
+    match kind {
+        CallKind::UpdateCounterWith => on_table(
+            table,
+            TableCall::UpdateCounter(
+                second.copy()?,
+                Increment::of(alloc, third)?,
+                Some(object_in(fourth)?),
+            ),
         ),
         _ => Ok(TableRequest::Other),
     }
@@ -124,7 +152,8 @@ impl TableRequest {
         match arguments.as_slice() {
             [table] => of_one(kind, table),
             [table, second] => of_two(alloc, kind, table, second),
-            [table, second, third] => of_three(kind, table, second, third),
+            [table, second, third] => of_three(alloc, kind, table, second, third),
+            [table, second, third, fourth] => of_four(alloc, kind, table, second, third, fourth),
             _ => Ok(TableRequest::Other),
         }
     }

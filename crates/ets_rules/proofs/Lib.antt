@@ -1,6 +1,7 @@
 pub mod Adding
 pub mod Apart
 pub mod Applied
+pub mod Counting
 pub mod Finding
 pub mod Holding
 pub mod Passing

@@ -12,9 +12,9 @@ use Rattle.world_model.specs.Ends.{living_heir, passed, table_passes}
 use Rattle.world_model.specs.Events.{Message}
 use Rattle.world_model.specs.Names.{Name, Pid, Ref}
 use Rattle.world_model.specs.NewTables.{made, means_if}
-use Rattle.world_model.specs.Objects.{given, keys_asked, one_present, place_of, sum_of, removed_at, removes, stored_at, stores}
+use Rattle.world_model.specs.Objects.{given, keys_asked, one_present, counter_object, alters, removed_at, removes, stored_at, stores}
 use Rattle.world_model.specs.Ownership.{destroyed, gives_to, heirs_set}
-use Rattle.world_model.specs.Rows.{Key, Object, RowChange, Stores, Removes, Clears, Alters, part_at}
+use Rattle.world_model.specs.Rows.{Key, Object, RowChange, Stores, Removes, Clears, part_at, with_parts}
 use Rattle.world_model.specs.TableAccess.{Found}
 use Rattle.world_model.specs.TableLines.{insert_new_line, table_line}
 use Rattle.world_model.specs.Tables as tables
@@ -123,6 +123,10 @@ new_ones : (w : Contents) (f : Found) (present : Bool) (os : Option (List Object
 new_ones w f true os held = record {}
 new_ones w f false os held = stores_apply w f (given os) held
 
+alters_apply : (w : Contents) (f : Found) (key : Key) (changes : Option (List (ℕ × Meaning))) (there : List Object) → w (cells.Table f.ref) ≡ Some f.table → CanApply w (alters f key changes there)
+alters_apply w f key changes [] held = record {}
+alters_apply w f key changes (object ∷ objects) held = (writable (Stores f.table.kind (with_parts (given changes) object)) f.table (w (cells.Table f.ref)) held refl, record {})
+
 destroyed_plain : (f : Found) → all_plain (destroyed f) ≡ true
 destroyed_plain f = freed_plain f.table.is_named f.table.name
 
@@ -147,9 +151,8 @@ line_applies v w p f (DeleteKey key) held = (writable Clears f.table (w (cells.T
 line_applies v w p f (DeleteObject object) held = removes_apply w f object held
 line_applies v w p f DeleteAll held = (record {}, record {})
 line_applies v w p f (Take key) held = (writable Clears f.table (w (cells.Table f.ref)) held (record {}), record {})
-line_applies v w p f (UpdateCounter key increment) held = (writable (Alters (place_of f.table.position increment) (sum_of f.table increment (v (cells.Row f.ref key)))) f.table (w (cells.Table f.ref)) held (record {}), record {})
-line_applies v w p f (UpdateElement key None) held = record {}
-line_applies v w p f (UpdateElement key (Some change)) held = (writable (Alters change.0 change.1) f.table (w (cells.Table f.ref)) held (record {}), record {})
+line_applies v w p f (UpdateCounter key increment default) held = (writable (Stores f.table.kind (counter_object f.table key increment default (v (cells.Row f.ref key)))) f.table (w (cells.Table f.ref)) held refl, record {})
+line_applies v w p f (UpdateElement key changes) held = alters_apply w f key changes (v (cells.Row f.ref key)) held
 line_applies v w p f (GiveAway to gift) held = plain_applies w (gives_to f to gift) (gives_plain f to gift)
 line_applies v w p f (SetOptions heirs) held = plain_applies w (heirs_set f.ref (given heirs)) (heirs_plain f.ref (given heirs))
 line_applies v w p f call held = record {}

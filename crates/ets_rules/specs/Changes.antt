@@ -14,7 +14,7 @@ use Rattle.world_model.specs.Rows as rows
 use Rattle.world_model.specs.Tables as tables
 use Rattle.world_model.specs.Tables.{table_of}
 use Rattle.ets_rules.specs.declared.change.RowChange.{RowChange}
-use Rattle.ets_rules.specs.declared.change.RowChange.TheVariants.{Stores, Removes, Clears, Alters}
+use Rattle.ets_rules.specs.declared.change.RowChange.TheVariants.{Stores, Removes, Clears}
 use Rattle.ets_rules.specs.declared.change.TableChange.{TableChange}
 use Rattle.ets_rules.specs.declared.change.TableChange.TheVariants.{RowWritten, RowsCleared, TableSet, TableTouched, OwnerSet, HeirSet, TableRemoved, NameSet, NameCleared, OwnedAdded, OwnedRemoved, OwnedCleared}
 
@@ -23,7 +23,6 @@ abbrev pub row_change_in : RowChange → rows.RowChange
 row_change_in (Stores kind object) = rows.Stores kind object
 row_change_in (Removes object) = rows.Removes object
 row_change_in Clears = rows.Clears
-row_change_in (Alters position value) = rows.Alters position (meaning_of value)
 
 -- the changes of the explored world that a change of tables means
 abbrev pub changes_of_tables : TableChange → List changes.Change

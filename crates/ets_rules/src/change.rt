@@ -2,7 +2,7 @@
 ghost use Rattle.std.specs.Prelude.{◌≡◌, IfOk, OnOk};
 ghost use Rattle.ets_rules.specs.Changes.{CanApply, changes_of_tables};
 ghost use Rattle.ets_rules.specs.Tables.{Hold};
-ghost use Rattle.ets_rules.specs.declared.change.RowChange.TheVariants.{Alters, Stores};
+ghost use Rattle.ets_rules.specs.declared.change.RowChange.TheVariants.{Stores};
 ghost use Rattle.ets_rules.specs.declared.change.TableChange.TheVariants.{HeirSet, RowWritten};
 ghost use Rattle.ets_rules.specs.inside.Applied.{Applies};
 ghost use Rattle.ets_store.specs.Tables.{heir_in};
@@ -16,8 +16,7 @@ use std::alloc::{AllocError, Global};
 use term_core::{Atom, Pid, RefId, Term};
 use world_model::table::Kind;
 
-/// What a write does to the objects under one key of a table (ets manual, `insert/2`, `delete_object/2`, `delete/2`,
-/// `update_element/3`).
+/// What a write does to the objects under one key of a table (ets manual, `insert/2`, `delete_object/2`, `delete/2`).
 #[derive(Drop)]
 pub enum RowChange {
     /// An object is put in, as tables of this kind do.
@@ -26,8 +25,6 @@ pub enum RowChange {
     Removes(Object),
     /// All objects are taken out.
     Clears,
-    /// The first object has this element at this position from now on.
-    Alters(usize, Term),
 }
 
 /// A change of the tables of a world, of their names, or of who has them.
@@ -83,22 +80,6 @@ impl Tables {
         Ok(())
     }
 
-    // The first object under a key of a table gets a copy of this element.
-    fn alter_copy(
-        &mut self,
-        alloc: Global,
-        id: &RefId,
-        key: &Term,
-        position: usize,
-        value: &Term,
-    ) -> Result<(), AllocError>
-        ensures { OnOk result (Applies (RowWritten id.now key.now (Alters position value.now)) self.old self.new) }
-    {
-        let value = value.copy()?;
-        self.alter(alloc, id, key, position, value)?;
-        Ok(())
-    }
-
     // The objects under a key of a table change.
     fn rewrite(
         &mut self,
@@ -113,7 +94,6 @@ impl Tables {
             RowChange::Stores(kind, object) => self.store_copy(alloc, id, key, *kind, object),
             RowChange::Removes(object) => self.erase(alloc, id, key, object),
             RowChange::Clears => self.delete_key(id, key),
-            RowChange::Alters(position, value) => self.alter_copy(alloc, id, key, *position, value),
         }
     }
 

@@ -1,12 +1,11 @@
-// Single changes of the rows of a table (ets manual, `insert/2`, `delete_object/2`, `delete/2`, `update_element/3`,
-// `delete_all_objects/1`).
+// Single changes of the rows of a table (ets manual, `insert/2`, `delete_object/2`, `delete/2`, `delete_all_objects/1`).
 ghost use Rattle.std.specs.Prelude.{◌∷◌, [], OnOk};
 ghost use Rattle.ets_rules.specs.Tables.{ChangesRow, Hold};
 ghost use Rattle.world_model.specs.Names.{ref_of};
 ghost use Rattle.term_core.specs.Term.{meaning_of};
 ghost use Rattle.world_model.specs.Cells.{Contents};
 ghost use Rattle.world_model.specs.Changes.{after, RowsCleared};
-ghost use Rattle.world_model.specs.Rows.{Alters, Clears, Removes, Stores};
+ghost use Rattle.world_model.specs.Rows.{Clears, Removes, Stores};
 
 use crate::tables::Tables;
 use ets_store::Object;
@@ -62,26 +61,6 @@ impl Tables {
         }
         let table = self.registry.table_mut(id)?;
         table.rows.delete_key(key)?;
-        Ok(())
-    }
-
-    /// The first object under a key of a table, if there is one, gets another part at a position. `AllocError` if there
-    /// is no memory for it, and then the part is dropped.
-    pub fn alter(
-        &mut self,
-        alloc: Global,
-        id: &RefId,
-        key: &Term,
-        position: usize,
-        value: Term,
-    ) -> Result<(), AllocError>
-        ensures { OnOk result (ChangesRow (ref_of id.now) (meaning_of key.now) (λ table. Alters position (meaning_of value)) self.old self.new) }
-    {
-        if self.registry.get(id).is_none() {
-            return Ok(());
-        }
-        let table = self.registry.table_mut(id)?;
-        table.rows.update_element(alloc, key, position, value)?;
         Ok(())
     }
 

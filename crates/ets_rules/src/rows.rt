@@ -1,22 +1,21 @@
 // The changes of rows of calls of tables (ets manual, each under the name of its call).
-ghost use Rattle.std.specs.Prelude.{◌≡◌, ◌≤◌, ◌^◌, ◌∷◌, [], MatchOption, OnOk, option_map};
+ghost use Rattle.std.specs.Prelude.{◌≡◌, ◌∷◌, [], IfOk, OnOk, option_map};
 ghost use Rattle.ets_answers.specs.At.{found_at};
-ghost use Rattle.ets_calls.specs.Arguments.{change_in, increment_in};
+ghost use Rattle.ets_calls.specs.Arguments.{changes_in};
 ghost use Rattle.ets_rules.specs.Changes.{row_change_in};
 ghost use Rattle.ets_rules.specs.inside.Planned.{Adds, AddsRow};
 ghost use Rattle.ets_store.specs.Tables.{settings_in};
 ghost use Rattle.term_core.specs.Term.{meaning_of};
 ghost use Rattle.world_model.specs.Changes.{RowsCleared};
 ghost use Rattle.world_model.specs.Names.{ref_of};
-ghost use Rattle.world_model.specs.Objects.{alters, given, place_of, removed_at, removes, stored_at, stores};
+ghost use Rattle.world_model.specs.Objects.{alters, given, removed_at, removes, stored_at, stores};
 ghost use Rattle.world_model.specs.Rows as rows;
-ghost use Rattle.world_model.specs.Rows.{part_at};
+ghost use Rattle.world_model.specs.Rows.{part_at, under, with_parts};
 
 use crate::change::{RowChange, TableChange};
 use crate::changes::Changes;
-use ets_calls::Increment;
 use ets_store::{Object, Table};
-use std::alloc::AllocError;
+use std::alloc::{AllocError, Global};
 use term_core::{RefId, Term};
 
 /// What a write does to the objects under a key.
@@ -116,52 +115,49 @@ pub(crate) fn wipe(id: &RefId, changes: &mut Changes) -> Result<(), AllocError>
     changes.add(TableChange::RowsCleared(id.copy()?))
 }
 
-// The position of a counter where keys have a position; `None` where no memory has an object that long.
-fn place_of(position: usize, increment: Increment) -> Option<usize>
-    ensures { MatchOption result (2 ^ 64 ≤ place_of position (increment_in increment)) (λ place. place ≡ place_of position (increment_in increment)) }
-{
-    match increment {
-        Increment::Behind(_) => position.checked_add(1),
-        Increment::AtPlace(place, _) => Some(place),
-        Increment::NotGiven => Some(0),
-    }
-}
-
-/// `update_counter/3`: the sum that it answers is put in. `AllocError` also where no memory has an object with such a
-/// position.
+/// `update_counter/3` and `update_counter/4`: this object is put in under the key.
 pub(crate) fn count(
     id: &RefId,
     table: &Table,
     key: &Term,
-    increment: Increment,
-    answer: &Term,
+    object: &Object,
     changes: &mut Changes,
 ) -> Result<(), AllocError>
-    ensures { OnOk result (AddsRow (ref_of id.now) (meaning_of key.now) (rows.Alters (place_of (settings_in table.now).position (increment_in increment)) (meaning_of answer.now)) changes.old changes.new) }
+    ensures { OnOk result (AddsRow (ref_of id.now) (meaning_of key.now) (rows.Stores (settings_in table.now).kind object.now) changes.old changes.new) }
 {
-    let Some(place) = place_of(table.position(), increment) else {
-        return Err(AllocError);
-    };
-    write(id, key, RowChange::Alters(place, answer.copy()?), changes)
+    let change = RowChange::Stores(table.kind(), object.copy()?);
+    write(id, key, change, changes)
 }
 
-/// `update_element/3` with a change that is known to be one.
+// An object with the parts that are given.
+fn with_given(
+    alloc: Global,
+    object: &Object,
+    parts: &Option<Vec<(usize, Term)>>,
+) -> Result<Object, AllocError>
+    ensures { IfOk result (λ object_. object_ ≡ with_parts (given (changes_in parts.now)) object.now) }
+{
+    match parts {
+        Some(parts) => object.with_parts(alloc, parts.as_slice()),
+        None => object.copy(),
+    }
+}
+
+/// `update_element/3` with parts that are known to be such: they are put into the object under the key, if there is one.
 pub(crate) fn alter(
+    alloc: Global,
     id: &RefId,
+    table: &Table,
     key: &Term,
-    change: &Option<(usize, Term)>,
+    parts: &Option<Vec<(usize, Term)>>,
     changes: &mut Changes,
 ) -> Result<(), AllocError>
-    ensures { OnOk result (Adds (alters (ref_of id.now) (meaning_of key.now) (change_in change.now)) changes.old changes.new) }
+    ensures { OnOk result (Adds (alters (found_at (ref_of id.now) table.now) (meaning_of key.now) (changes_in parts.now) (under table.now.rows.rows (meaning_of key.now))) changes.old changes.new) }
 {
-    match change {
-        Some((position, value)) => {
-            write(
-                id,
-                key,
-                RowChange::Alters(*position, value.copy()?),
-                changes,
-            )
+    match table.rows.objects(key).first() {
+        Some(object) => {
+            let change = RowChange::Stores(table.kind(), with_given(alloc, object, parts)?);
+            write(id, key, change, changes)
         }
         None => Ok(()),
     }

@@ -1,3 +1,4 @@
+pub mod Parts
 pub mod TableRows
 pub mod Tables
 pub mod CellLaws

@@ -1,8 +1,9 @@
 // Objects: the tuples that tables hold (ets manual, "Description").
-ghost use Rattle.std.specs.Prelude.{◌≡◌, IfOk, length, map, option_copied};
+ghost use Rattle.std.specs.Prelude.{◌≡◌, IfOk, OnOk, length, map, option_copied};
 ghost use Rattle.std.specs.Option.{option_map};
+ghost use Rattle.ets_store.specs.Parts.{part_in};
 ghost use Rattle.term_core.specs.Term.{meaning_of};
-ghost use Rattle.world_model.specs.Rows.{part_at, same_object, with_part};
+ghost use Rattle.world_model.specs.Rows.{part_at, same_object, with_part, with_parts};
 ghost use Rattle.world_model.specs.Terms.{tuple};
 
 use std::alloc::{AllocError, Global};
@@ -128,6 +129,26 @@ impl Object {
         put_part(&mut parts, position, value);
         Ok(Object(Arc::new(alloc, Terms::from_vec(parts))?))
     }
+
+    /// The object with copies of other parts, each at its position, one after the other, or `AllocError` if there is no
+    /// memory for it. A part at a position that it has not is left out.
+    pub fn with_parts(&self, alloc: Global, parts: &[(usize, Term)]) -> Result<Object, AllocError>
+        ensures { IfOk result (λ object. object ≡ with_parts (map part_in parts.now) self.now) }
+    {
+        let mut own = self.0.copy(alloc)?.into_vec();
+        put_parts(&mut own, parts)?;
+        Ok(Object(Arc::new(alloc, Terms::from_vec(own))?))
+    }
+}
+
+// Puts other parts at positions, one after the other, or `AllocError` where the copies of one can no longer be counted.
+fn put_parts(own: &mut Vec<Term>, parts: &[(usize, Term)]) -> Result<(), AllocError>
+    ensures { OnOk result (map meaning_of own.new.items ≡ with_parts (map part_in parts.now) (map meaning_of own.old.items)) }
+{
+    for part in parts {
+        put_part(own, part.0, part.1.copy()?);
+    }
+    Ok(())
 }
 
 // Puts another part at a position, if there is one.

@@ -3,7 +3,7 @@ ghost use Rattle.std.specs.Prelude.{◌≡◌, ◌∷◌, ◌++◌, [], IfOk, On
 ghost use Rattle.std.specs.List.{filter, list_any};
 ghost use Rattle.term_core.specs.Meaning.{Meaning};
 ghost use Rattle.term_core.specs.Term.{meaning_of};
-ghost use Rattle.world_model.specs.Rows.{tuples, same_object, rewritten, Removes, stored, altered};
+ghost use Rattle.world_model.specs.Rows.{tuples, same_object, rewritten, Removes, stored};
 ghost use Rattle.world_model.specs.Terms.{tuple};
 ghost use Rattle.world_model.specs.declared.table.Kind.TheVariants.{Bag};
 
@@ -167,24 +167,6 @@ impl Objects {
         self.with_last(object)
     }
 
-    /// The objects with another part in the first of them, or `AllocError` if there is no memory for them, and
-    /// then the part is dropped.
-    pub(crate) fn altered(
-        &self,
-        alloc: Global,
-        position: usize,
-        value: Term,
-    ) -> Result<Objects, AllocError>
-        ensures { IfOk result (λ objects. objects ≡ altered position (meaning_of value) self.now) }
-    {
-        let mut items = Vec::with_capacity(alloc, self.items.len())?;
-        if let Some(first) = self.items.first() {
-            items.push(first.with_part(alloc, position, value)?)?;
-            add_copies(&mut items, &self.items[1..])?;
-        }
-        Ok(Objects { items })
-    }
-
     /// The list of the objects, or `AllocError` if there is no memory for it.
     pub(crate) fn list(&self, alloc: Global) -> Result<Term, AllocError>
         ensures { IfOk result (λ list. meaning_of list ≡ tuples self.now) }
@@ -201,16 +183,6 @@ pub(crate) fn add_terms(terms: &mut Vec<Term>, objects: &[Object]) -> Result<(),
 {
     for object in objects {
         terms.push(object.term()?)?;
-    }
-    Ok(())
-}
-
-// Adds copies of objects after others.
-fn add_copies(items: &mut Vec<Object>, objects: &[Object]) -> Result<(), AllocError>
-    ensures { OnOk result (items.new.items ≡ items.old.items ++ objects.now) }
-{
-    for object in objects {
-        items.push(object.copy()?)?;
     }
     Ok(())
 }

@@ -3,7 +3,7 @@ ghost use Rattle.std.specs.FinMap as map;
 ghost use Rattle.std.specs.Prelude.{◌≡◌, IfOk, OnOk, OnErr, IsTrue, option_copied};
 ghost use Rattle.term_core.specs.Term.{meaning_of};
 ghost use Rattle.world_model.specs.Calls.{has_items};
-ghost use Rattle.world_model.specs.Rows.{with_row, rows_rewritten, rewritten, under, tuples, Stores, Removes, Alters};
+ghost use Rattle.world_model.specs.Rows.{with_row, rows_rewritten, rewritten, under, tuples, Stores, Removes};
 
 use crate::object::Object;
 use crate::objects::Objects;
@@ -128,22 +128,6 @@ impl RowMap {
         }
     }
 
-    // The objects under a key once the first has another part.
-    fn altered(
-        &self,
-        alloc: Global,
-        key: &Term,
-        position: usize,
-        value: Term,
-    ) -> Result<Objects, AllocError>
-        ensures { IfOk result (λ objects. objects ≡ rewritten (Alters position (meaning_of value)) (under self.now (meaning_of key.now))) }
-    {
-        match self.get(key) {
-            Some(there) => there.altered(alloc, position, value),
-            None => Ok(Objects::new(alloc)),
-        }
-    }
-
     /// Puts an object in under a key, as the kind of the table says, or `AllocError` if there is no memory for
     /// it: then all is as it was, and the object is dropped.
     pub(crate) fn store(
@@ -173,23 +157,6 @@ impl RowMap {
         ensures err { OnErr result (self.new ≡ self.old) }
     {
         let objects = self.without(alloc, &key, object)?;
-        self.put(key, objects)?;
-        Ok(())
-    }
-
-    /// Puts another part into the first object under a key, or `AllocError` if there is no memory for it: then
-    /// all is as it was, and the part is dropped.
-    pub(crate) fn alter(
-        &mut self,
-        alloc: Global,
-        key: Term,
-        position: usize,
-        value: Term,
-    ) -> Result<(), AllocError>
-        ensures ok { OnOk result (self.new ≡ rows_rewritten (meaning_of key) (Alters position (meaning_of value)) self.old) }
-        ensures err { OnErr result (self.new ≡ self.old) }
-    {
-        let objects = self.altered(alloc, &key, position, value)?;
         self.put(key, objects)?;
         Ok(())
     }

@@ -3,9 +3,8 @@
 ghost use Rattle.std.specs.FinMap as map;
 ghost use Rattle.std.specs.Prelude.{◌≡◌, IfOk, OnOk, OnErr, not};
 ghost use Rattle.ets_store.specs.TableRows.{with_rows, with_object, with_objects, without_object, one_has_key, with_new_objects};
-ghost use Rattle.term_core.specs.Meaning.{Int};
 ghost use Rattle.term_core.specs.Term.{meaning_of};
-ghost use Rattle.world_model.specs.Rows.{rows_rewritten, Stores, Removes, Clears, Alters, tuples, under};
+ghost use Rattle.world_model.specs.Rows.{rows_rewritten, Stores, Removes, Clears, tuples, under};
 
 use crate::object::Object;
 use crate::row_map::RowMap;
@@ -98,40 +97,5 @@ impl Rows {
             return Ok(());
         };
         self.erase(alloc, key, object)
-    }
-
-    /// Puts another part at a position of the first object under a key, if there is one that is that long (ets
-    /// manual, `update_element/3`), or `AllocError` if there is no memory for it: then all is as it was, and
-    /// the part is dropped.
-    pub fn update_element(
-        &mut self,
-        alloc: Global,
-        key: &Term,
-        position: usize,
-        value: Term,
-    ) -> Result<(), AllocError>
-        ensures ok { OnOk result (self.new ≡ with_rows self.old (rows_rewritten (meaning_of key.now) (Alters position (meaning_of value)) self.old.rows)) }
-        ensures err { OnErr result (self.new ≡ self.old) }
-    {
-        let key = key.copy()?;
-        let map = Arc::make_mut(&mut self.map)?;
-        map.alter(alloc, key, position, value)?;
-        Ok(())
-    }
-
-    /// Puts a sum at a position of the first object under a key, if there is one that is that long (ets manual,
-    /// `update_counter/3`), or `AllocError` if there is no memory for it: then all is as it was.
-    pub fn update_counter(
-        &mut self,
-        alloc: Global,
-        key: &Term,
-        position: usize,
-        sum: i64,
-    ) -> Result<(), AllocError>
-        ensures ok { OnOk result (self.new ≡ with_rows self.old (rows_rewritten (meaning_of key.now) (Alters position (Int sum)) self.old.rows)) }
-        ensures err { OnErr result (self.new ≡ self.old) }
-    {
-        self.update_element(alloc, key, position, Term::Int(sum))?;
-        Ok(())
     }
 }

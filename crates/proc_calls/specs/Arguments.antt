@@ -4,7 +4,7 @@ use Rattle.world_model.specs.Calls as calls
 use Rattle.world_model.specs.Names.{ref_of}
 use Rattle.world_model.specs.Requests as requests
 use Rattle.proc_calls.specs.declared.argument.Destination.{Destination}
-use Rattle.proc_calls.specs.declared.argument.Destination.TheVariants.{ToProcess, ToName, ToReference, ToNobody}
+use Rattle.proc_calls.specs.declared.argument.Destination.TheVariants.{ToProcess, ToName, ToReference, ToNode, ToAnotherNode, ToNobody}
 use Rattle.proc_calls.specs.declared.argument.MonitorType.{MonitorType}
 use Rattle.proc_calls.specs.declared.argument.MonitorType.TheVariants.{Process, Another}
 use Rattle.proc_calls.specs.declared.guarding.Naming.{Naming}
@@ -22,6 +22,8 @@ abbrev pub destination_in : Destination → calls.Destination
 destination_in (ToProcess pid) = calls.ToProcess pid
 destination_in (ToName name) = calls.ToName name
 destination_in (ToReference reference) = calls.ToReference (ref_of reference)
+destination_in (ToNode name) = calls.ToNode name
+destination_in ToAnotherNode = calls.ToAnotherNode
 destination_in ToNobody = calls.ToNobody
 
 -- whether it is a process that is to be watched

@@ -5,6 +5,7 @@ use crate::options::{Flushing, Trapping};
 use crate::spawning::{Origin, SpawnWay};
 use term_core::{Atom, Pid, RefId, Term};
 use world_model::alias::AliasEnd;
+use world_model::process::ProcessItem;
 
 /// A call of processes (the Erlang manual, module `erlang`). An argument that is not of its kind is `None`.
 #[derive(Drop)]
@@ -21,6 +22,8 @@ pub enum ProcessCall {
     Unlink(Option<Pid>),
     /// `monitor/2` and `monitor/3`: watches the process, with an alias where one is asked for.
     Monitor(MonitorType, Option<Pid>, Option<Option<AliasEnd>>),
+    /// `monitor/2` and `monitor/3`: watches the holder of the name, with an alias where one is asked for.
+    MonitorName(MonitorType, Atom, Option<Option<AliasEnd>>),
     /// `demonitor/1` and `demonitor/2`: ends the watch of this reference.
     Demonitor(Option<RefId>, Option<Flushing>),
     /// `process_flag/2`: whether the caller traps exits from now on.
@@ -31,8 +34,12 @@ pub enum ProcessCall {
     Unregister(Option<Atom>),
     /// `whereis/1`: the process of the name.
     WhereIs(Option<Atom>),
+    /// `registered/0`: all names of processes.
+    Registered,
     /// `is_process_alive/1`: whether the process lives.
     IsAlive(Option<Pid>),
+    /// `process_info/2`: one item about the process.
+    ProcessInfo(Option<Pid>, Option<ProcessItem>),
     /// `make_ref/0`: a new reference.
     MakeRef,
     /// `alias/0` and `alias/1`: a new alias of the caller.

@@ -8,7 +8,7 @@ pub mod options;
 pub mod request;
 pub mod spawning;
 
-pub use argument::{Destination, MonitorType};
+pub use argument::{Destination, MonitorType, process_item_in};
 pub use call::ProcessCall;
 pub use guarding::Naming;
 pub use options::{Flushing, Trapping};

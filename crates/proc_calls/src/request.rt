@@ -1,22 +1,25 @@
 // What a call asks of processes: which call of processes it is, and what each of its arguments is (the Erlang manual,
 // module `erlang`).
 ghost use Rattle.std.specs.Prelude.{IfOk};
-ghost use Rattle.proc_calls.specs.Arguments.{is_named, way_in};
+ghost use Rattle.proc_calls.specs.Arguments.{is_named, is_process, way_in};
 ghost use Rattle.proc_calls.specs.Calls.{call_in};
 ghost use Rattle.proc_calls.specs.Requests.{IsReadAs};
+ghost use Rattle.term_core.specs.Meaning.{Meaning};
 ghost use Rattle.term_core.specs.Term.{meaning_of};
 ghost use Rattle.world_model.specs.Calls as calls;
-ghost use Rattle.world_model.specs.Calls.{call_of, call_of_none, call_of_one, call_of_two, call_of_three, origin_of, time_of};
+ghost use Rattle.world_model.specs.Calls.{call_of, call_of_none, call_of_one, call_of_two, call_of_three, call_of_four, monitor_by, monitor_of, origin_of, time_of, watched_name_of};
 ghost use Rattle.world_model.specs.Terms.{atom_in, items_in, process_in};
 
-use crate::argument::{Destination, MonitorType, name_in, process_in, reference_in};
+use crate::argument::{
+    Destination, MonitorType, name_in, process_in, process_item_in, reference_in, watched_name_in,
+};
 use crate::call::ProcessCall;
 use crate::guarding::{Naming, alias_in, end_in, time_in};
 use crate::options::{Flushing, Trapping};
 use crate::spawning::{Origin, SpawnWay};
 use core_tree::CallKind;
 use std::alloc::{AllocError, Global};
-use term_core::{Term, Terms};
+use term_core::{Atom, Pid, Term, Terms};
 use world_model::alias::AliasEnd;
 
 /// What a call asks of processes.
@@ -43,6 +46,7 @@ fn of_none(kind: CallKind) -> Result<ProcessRequest, AllocError>
 {
     match kind {
         CallKind::MakeRef => asks(ProcessCall::MakeRef),
+        CallKind::Registered => asks(ProcessCall::Registered),
         CallKind::Alias => asks(ProcessCall::MakeAlias(Some(AliasEnd::ByUnalias))),
         _ => Ok(ProcessRequest::Misfit),
     }
@@ -70,7 +74,8 @@ fn of_one(kind: CallKind, first: &Term) -> Result<ProcessRequest, AllocError>
         | CallKind::Last
         | CallKind::TableToList
         | CallKind::DeleteTable
-        | CallKind::DeleteAllObjects => Ok(ProcessRequest::Other),
+        | CallKind::DeleteAllObjects
+        | CallKind::InfoAll => Ok(ProcessRequest::Other),
         _ => Ok(ProcessRequest::Misfit),
     }
 }
@@ -82,6 +87,37 @@ fn send(to: &Term, message: &Term) -> Result<ProcessRequest, AllocError>
     asks(ProcessCall::Send(Destination::of(to)?, message.copy()?))
 }
 
+// A watch of a process, or of the holder of a name.
+fn watch(
+    kind: MonitorType,
+    whom: Option<Pid>,
+    name: Option<Atom>,
+    alias: Option<Option<AliasEnd>>,
+) -> Result<ProcessRequest, AllocError>
+    ensures { IfOk result (IsReadAs (monitor_by (is_process kind) whom name alias)) }
+{
+    match name {
+        Some(name) => asks(ProcessCall::MonitorName(kind, name, alias)),
+        None => asks(ProcessCall::Monitor(kind, whom, alias)),
+    }
+}
+
+// A watch.
+fn monitor(
+    kind: &Term,
+    whom: &Term,
+    alias: Option<Option<AliasEnd>>,
+) -> Result<ProcessRequest, AllocError>
+    ensures { IfOk result (IsReadAs (monitor_of (meaning_of kind.now) (meaning_of whom.now) alias)) }
+{
+    watch(
+        MonitorType::of(kind),
+        process_in(whom)?,
+        watched_name_in(whom)?,
+        alias,
+    )
+}
+
 // A call with two arguments.
 fn of_two(kind: CallKind, first: &Term, second: &Term) -> Result<ProcessRequest, AllocError>
     ensures { IfOk result (IsReadAs (call_of_two kind (meaning_of first.now) (meaning_of second.now))) }
@@ -90,17 +126,17 @@ fn of_two(kind: CallKind, first: &Term, second: &Term) -> Result<ProcessRequest,
         CallKind::Bang => send(first, second),
         CallKind::Send => send(first, second),
         CallKind::Exit => asks(ProcessCall::SendExit(process_in(first)?, second.copy()?)),
-        CallKind::Monitor => asks(ProcessCall::Monitor(
-            MonitorType::of(first),
-            process_in(second)?,
-            Some(None),
-        )),
+        CallKind::Monitor => monitor(first, second, Some(None)),
         CallKind::DemonitorWith => asks(ProcessCall::Demonitor(
             reference_in(first)?,
             Flushing::of(second),
         )),
         CallKind::ProcessFlag => asks(ProcessCall::Flag(Trapping::of(first, second))),
         CallKind::Register => asks(ProcessCall::Register(name_in(first)?, process_in(second)?)),
+        CallKind::ProcessInfo => asks(ProcessCall::ProcessInfo(
+            process_in(first)?,
+            process_item_in(second),
+        )),
         CallKind::New
         | CallKind::Lookup
         | CallKind::Member
@@ -159,11 +195,7 @@ fn of_three(
         CallKind::Spawn => spawn(alloc, SpawnWay::Alone, first, second, third),
         CallKind::SpawnLink => spawn(alloc, SpawnWay::Linked, first, second, third),
         CallKind::SpawnMonitor => spawn(alloc, SpawnWay::Watched, first, second, third),
-        CallKind::MonitorWith => asks(ProcessCall::Monitor(
-            MonitorType::of(first),
-            process_in(second)?,
-            alias_in(third),
-        )),
+        CallKind::MonitorWith => monitor(first, second, alias_in(third)),
         CallKind::StartTimer => start_timer(Naming::Named, first, second, third),
         CallKind::SendAfter => start_timer(Naming::Bare, first, second, third),
         CallKind::LookupElement
@@ -171,6 +203,16 @@ fn of_three(
         | CallKind::UpdateElement
         | CallKind::GiveAway => Ok(ProcessRequest::Other),
         _ => Ok(ProcessRequest::Misfit),
+    }
+}
+
+// A call with four arguments: none of processes.
+fn of_four(kind: CallKind) -> ProcessRequest
+    ensures { (a b c d : Meaning) → IsReadAs (call_of_four kind a b c d) result }
+{
+    match kind {
+        CallKind::UpdateCounterWith => ProcessRequest::Other,
+        _ => ProcessRequest::Misfit,
     }
 }
 
@@ -190,6 +232,7 @@ impl ProcessRequest {
             [first] => of_one(kind, first),
             [first, second] => of_two(kind, first, second),
             [first, second, third] => of_three(alloc, kind, first, second, third),
+            [_, _, _, _] => Ok(of_four(kind)),
             _ => Ok(ProcessRequest::Misfit),
         }
     }

@@ -9,7 +9,7 @@ use Rattle.std.specs.Ordering.{eq_by_cmp, int_eq}
 use Rattle.term_core.proofs.Equality.{reference_ids_same}
 use Rattle.term_core.specs.Order.{order_of_lists}
 use Rattle.term_core.specs.StepOrder.{order_of_reference_ids}
-use Rattle.world_model.specs.Names.{ref_of, same_pid}
+use Rattle.world_model.specs.Names.{ref_of, same_name, same_pid}
 use Rattle.proc_groups.specs.declared.groups.Groups.{Groups}
 use Rattle.proc_groups.specs.Groups.{members_in}
 use Rattle.proc_groups.proofs.Alike.{entries_told}
@@ -21,7 +21,7 @@ use Rattle.proc_links.specs.Watchers as watching
 use Rattle.proc_links.specs.inside.Alike.{end_told, integer_told}
 use Rattle.proc_links.specs.inside.Watched.{AreSame}
 use Rattle.proc_links.specs.declared.guards.Guard.{Guard}
-use Rattle.proc_links.specs.declared.guards.Guard.TheVariants.{Alias, Timer}
+use Rattle.proc_links.specs.declared.guards.Guard.TheVariants.{Alias, Timer, NamedWatch, NamedAlias}
 use Rattle.proc_links.specs.declared.guards.Guards.{Guards}
 use Rattle.proc_links.specs.declared.names.Names.{Names}
 use Rattle.proc_links.specs.declared.watchers.Watchers.{Watchers}
@@ -58,8 +58,23 @@ stored_told (Alias p a) (Alias q b) e =
 stored_told (Timer p m) (Timer q n) e =
     let s = and_parts (same_pid p q) (int_eq m n) e in
     λ i. Timer ((bytes_eq-Decides p q).0 s.0 i) (integer_told m n s.1 i)
+stored_told (NamedWatch n) (NamedWatch m) e = λ i. NamedWatch ((bytes_eq-Decides n m).0 e i)
+stored_told (NamedAlias n p a) (NamedAlias m q b) e =
+    let s = and_parts (same_name n m) _ e in
+    let t = and_parts (same_pid p q) (same_end a b) s.1 in
+    λ i. NamedAlias ((bytes_eq-Decides n m).0 s.0 i) ((bytes_eq-Decides p q).0 t.0 i) (end_told a b t.1 i)
 stored_told (Alias p a) (Timer q n) e = cc
+stored_told (Alias p a) (NamedWatch m) e = cc
+stored_told (Alias p a) (NamedAlias m q b) e = cc
 stored_told (Timer p m) (Alias q b) e = cc
+stored_told (Timer p m) (NamedWatch n) e = cc
+stored_told (Timer p m) (NamedAlias n q b) e = cc
+stored_told (NamedWatch n) (Alias q b) e = cc
+stored_told (NamedWatch n) (Timer q m) e = cc
+stored_told (NamedWatch n) (NamedAlias m q b) e = cc
+stored_told (NamedAlias n p a) (Alias q b) e = cc
+stored_told (NamedAlias n p a) (Timer q m) e = cc
+stored_told (NamedAlias n p a) (NamedWatch m) e = cc
 
 pub guards_told : (a b : BTreeMap (List ℕ × ℕ) Guard) → pointwise (λ p q. eq_by_cmp order_of_reference_ids p.0 q.0 && same_guard (guard_of p.1) (guard_of q.1)) a.entries b.entries ≡ true → a.entries ≡ b.entries
 guards_told a b e = entries_told (eq_by_cmp order_of_reference_ids) (λ x y. same_guard (guard_of x) (guard_of y)) (λ x y. (reference_ids_same x y _ refl).0) stored_told a.entries b.entries e

@@ -1,11 +1,11 @@
 -- What guards references after one begins or ends.
-use Rattle.std.proofs.Common.{◌≡◌, ◌⊎◌, inl, inr, ℕ, Bool, true, false, List, [], ◌∷◌, Option, Some, None, option_map, if◌then◌else◌, option_and_then, ap, sym, ◌∙◌, refl}
+use Rattle.std.proofs.Common.{◌≡◌, ◌⊎◌, inl, inr, Bool, true, false, List, [], ◌∷◌, Option, Some, option_map, if◌then◌else◌, option_and_then, ap, sym, ◌∙◌, refl}
 use Rattle.std.specs.BTreeMap.{BTreeMap, get, is_at}
 use Rattle.std.specs.Map.{lookup}
 use Rattle.term_core.specs.StepOrder.{order_of_reference_ids}
 use Rattle.world_model.specs.Cells as cells
 use Rattle.world_model.specs.Cells.{Contents}
-use Rattle.world_model.specs.Changes.{changed, GuardCleared, GuardUnwatched}
+use Rattle.world_model.specs.Changes.{changed, GuardUnwatched}
 use Rattle.world_model.specs.Guards as guards
 use Rattle.world_model.specs.Guards.{unwatched}
 use Rattle.world_model.specs.Names.{Ref, same_ref, ref_of}
@@ -57,11 +57,12 @@ now_guarded old new b c x w same change now v told ref =
     ∙ ap (λ t. if t then option_map guard_of w else option_map guard_of (get order_of_reference_ids b id)) (refs_same x id)
     ∙ ap (λ o. if same_ref (ref_of x) ref then option_map guard_of w else o) (same id ∙ told ref)
 
--- an alias that ends with its watch is cleared where the watch ends
-unwatched_at : (b : Bool) (o there : Option guards.Guard) → (b ≡ true → option_and_then unwatched there ≡ None) → o ≡ (if b then None else there) → o ≡ (if b then option_and_then unwatched there else there)
-unwatched_at true o there ends is = is ∙ sym (ends refl)
-unwatched_at false o there ends is = is
+-- what is left of a guard where the watch of its reference ends
+unwatched_at : (b : Bool) (left o there : Option guards.Guard) → (b ≡ true → option_and_then unwatched there ≡ left) → o ≡ (if b then left else there) → o ≡ (if b then option_and_then unwatched there else there)
+unwatched_at true left o there leaves is = is ∙ sym (leaves refl)
+unwatched_at false left o there leaves is = is
 
-pub unwatched_cleared : (old new : Guards) (u : Ref) (g : guards.Guard) → guard_in old u ≡ Some g → unwatched g ≡ None → ((v : Contents) → AreGuards old v → AreGuards new (changed (GuardCleared u) v)) → (v : Contents) → AreGuards old v → AreGuards new (changed (GuardUnwatched u) v)
-unwatched_cleared old new u g is ends cleared v told ref =
-    unwatched_at (same_ref u ref) (guard_in new ref) (v (cells.Guard ref)) (λ same. ap (λ r. option_and_then unwatched (v (cells.Guard r))) (sym (ref_is u ref same)) ∙ ap (option_and_then unwatched) (sym (told u) ∙ is) ∙ ends) (cleared v told ref)
+pub unwatched_by : (left : Option guards.Guard) (old new : Guards) (u : Ref) (g : guards.Guard) → guard_in old u ≡ Some g → unwatched g ≡ left
+    → ((v : Contents) → AreGuards old v → (ref : Ref) → guard_in new ref ≡ (if same_ref u ref then left else v (cells.Guard ref))) → (v : Contents) → AreGuards old v → AreGuards new (changed (GuardUnwatched u) v)
+unwatched_by left old new u g is leaves now v told ref =
+    unwatched_at (same_ref u ref) left (guard_in new ref) (v (cells.Guard ref)) (λ same. ap (λ r. option_and_then unwatched (v (cells.Guard r))) (sym (ref_is u ref same)) ∙ ap (option_and_then unwatched) (sym (told u) ∙ is) ∙ leaves) (now v told ref)

@@ -1,6 +1,7 @@
 -- The names of processes.
 use Rattle.std.specs.Prelude.{◌≡◌, ◌∷◌, [], List, Option, Some, None}
 use Rattle.std.specs.BTreeMap.{get}
+use Rattle.std.specs.FinMap as map
 use Rattle.term_core.specs.Order.{order_of_lists}
 use Rattle.world_model.specs.Cells as cells
 use Rattle.world_model.specs.Cells.{Contents}
@@ -23,6 +24,9 @@ name_in names p = get order_of_lists names.bearers.value.names p
 -- the names are what the contents say
 abbrev pub AreHolders : Names → Contents → Type 0
 AreHolders names v = (name : Name) → holder_in names name ≡ v (cells.Holder name)
+
+abbrev pub AreListed : Names → Contents → Type 0
+AreListed names v = (name : Name) → holder_in names name ≡ map.get (v cells.Holders) name
 
 abbrev pub AreBorne : Names → Contents → Type 0
 AreBorne names v = (p : Pid) → name_in names p ≡ v (cells.NameOf p)

@@ -1,6 +1,6 @@
 // What becomes of a signal where it takes effect (Erlang reference manual, "Processes": "Sending Exit
 // Signals" and "Receiving Exit Signals").
-ghost use Rattle.std.specs.Prelude.{◌≡◌, IfOk};
+ghost use Rattle.std.specs.Prelude.{◌≡◌, IfOk, option_copied};
 ghost use Rattle.term_core.specs.Term.{meaning_of};
 ghost use Rattle.world_model.specs.Names.{ref_of};
 ghost use Rattle.world_model.specs.Signals as signals;
@@ -9,7 +9,7 @@ ghost use Rattle.proc_links.specs.Effects.{fate_in, is_own};
 
 use crate::process::Exits;
 use std::alloc::{AllocError, Global};
-use term_core::{Pid, RefId, Term, Terms};
+use term_core::{Atom, Pid, RefId, Term, Terms};
 
 /// What becomes of a signal.
 #[derive(Drop)]
@@ -44,20 +44,35 @@ pub fn exit_message(alloc: Global, from: &Pid, reason: &Term) -> Result<Term, Al
     Ok(Term::tuple(alloc, parts)?)
 }
 
-/// The message `{'DOWN',Ref,'process',From,Reason}`, or `AllocError` if there is no memory for it.
+// What the message of a watch calls its process: that process, or the name by which the watch was made, with the node.
+fn watched_as(alloc: Global, from: &Pid, name: Option<&Atom>) -> Result<Term, AllocError>
+    ensures { IfOk result (λ who. meaning_of who ≡ signals.watched_as from.now (option_copied name.entry)) }
+{
+    let Some(name) = name else {
+        return Ok(Term::Pid(from.copy()?));
+    };
+    let mut parts = Terms::new(alloc);
+    parts.push(Term::Atom(name.copy()?))?;
+    parts.push(Term::atom(alloc, "nonode@nohost")?)?;
+    Ok(Term::tuple(alloc, parts)?)
+}
+
+/// The message `{'DOWN',Ref,'process',From,Reason}` of a watch, with `{Name,Node}` in the place of the process where it
+/// was made by a name, or `AllocError` if there is no memory for it.
 pub fn down_message(
     alloc: Global,
     reference: &RefId,
     from: &Pid,
+    name: Option<&Atom>,
     reason: &Term,
 ) -> Result<Term, AllocError>
-    ensures { IfOk result (λ message. meaning_of message ≡ signals.down_message (ref_of reference.now) from.now (meaning_of reason.now)) }
+    ensures { IfOk result (λ message. meaning_of message ≡ signals.down_message (ref_of reference.now) (signals.watched_as from.now (option_copied name.entry)) (meaning_of reason.now)) }
 {
     let mut parts = Terms::new(alloc);
     parts.push(Term::atom(alloc, "DOWN")?)?;
     parts.push(Term::Ref(reference.copy()?))?;
     parts.push(Term::atom(alloc, "process")?)?;
-    parts.push(Term::Pid(from.copy()?))?;
+    parts.push(watched_as(alloc, from, name)?)?;
     parts.push(reason.copy()?)?;
     Ok(Term::tuple(alloc, parts)?)
 }

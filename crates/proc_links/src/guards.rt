@@ -1,4 +1,5 @@
-// What lets messages in that are sent to references (the Erlang manual, `alias/1`, `monitor/3` and `start_timer/3`).
+// What lets messages in that are sent to references, and the names by which watches were made (the Erlang manual,
+// `alias/1`, `monitor/3` and `start_timer/3`).
 ghost use Rattle.std.specs.Prelude.{◌≡◌, ℕ, List, IfOk, OnOk, OnErr, Some, None, option_copied, option_map, is_some, true};
 ghost use Rattle.std.specs.BTreeMap.{get};
 ghost use Rattle.term_core.specs.StepOrder.{order_of_reference_ids};
@@ -6,7 +7,7 @@ ghost use Rattle.proc_links.specs.Guards.{same_end};
 ghost use Rattle.proc_links.specs.inside.Guarded.{IsGuardSet};
 ghost use Rattle.world_model.specs.Cells.{Contents};
 ghost use Rattle.world_model.specs.Changes.{changed, GuardSet, GuardCleared, GuardUnwatched};
-ghost use Rattle.world_model.specs.Guards.{aliased, is_alias_of, ends_by_reply, timer_in};
+ghost use Rattle.world_model.specs.Guards.{aliased, is_alias_of, ends_by_reply, timer_in, watch_name};
 ghost use Rattle.world_model.specs.Names as names;
 ghost use Rattle.world_model.specs.Names.{ref_of};
 ghost use Rattle.world_model.specs.Signals.{guarded_fate};
@@ -17,16 +18,21 @@ use std::alloc::{AllocError, Global};
 use std::collections::BTreeMap;
 use std::hash::{Hash, Hasher};
 use std::sync::Arc;
-use term_core::{Pid, RefId, Term};
+use term_core::{Atom, Pid, RefId, Term};
 use world_model::alias::AliasEnd;
 
-/// What lets a message in that is sent to a reference. Contracts see it as `guard_of` it.
+/// What lets a message in that is sent to a reference, or the name by which its watch was made, or both. Contracts see it
+/// as `guard_of` it.
 #[derive(Drop)]
 pub enum Guard {
     /// An alias of a process, and when it ends.
     Alias(Pid, AliasEnd),
     /// A timer for a process, of so many milliseconds.
     Timer(Pid, i64),
+    /// A watch of this name, which lets nothing in.
+    NamedWatch(Atom),
+    /// A watch of this name with an alias of a process, and when that ends.
+    NamedAlias(Atom, Pid, AliasEnd),
 }
 
 /// What lets in the messages that are sent to references. Copies share all of it until one of them is changed.
@@ -70,6 +76,10 @@ impl PartialEq for Guard {
                 *pid == *owner && are_alike(*end, *how)
             }
             (Guard::Timer(pid, time), Guard::Timer(to, left)) => *pid == *to && *time == *left,
+            (Guard::NamedWatch(name), Guard::NamedWatch(other)) => *name == *other,
+            (Guard::NamedAlias(name, pid, end), Guard::NamedAlias(other, owner, how)) => {
+                *name == *other && *pid == *owner && are_alike(*end, *how)
+            }
             _ => false,
         }
     }
@@ -91,16 +101,30 @@ impl Guard {
                 pid.hash(state);
                 time.hash(state);
             }
+            Guard::NamedWatch(name) => {
+                state.write_u8(2);
+                name.hash(state);
+            }
+            Guard::NamedAlias(name, pid, end) => {
+                state.write_u8(3);
+                name.hash(state);
+                pid.hash(state);
+                end.hash(state);
+            }
         }
     }
 
-    /// The same guard, or `AllocError` where the copies of its process can no longer be counted. It takes no memory.
+    /// The same guard, or `AllocError` where the copies of its process or of its name can no longer be counted. It takes no memory.
     pub fn copy(&self) -> Result<Guard, AllocError>
         ensures { IfOk result (λ copied. guard_of copied ≡ guard_of self.now) }
     {
         match self {
             Guard::Alias(pid, end) => Ok(Guard::Alias(pid.copy()?, *end)),
             Guard::Timer(pid, time) => Ok(Guard::Timer(pid.copy()?, *time)),
+            Guard::NamedWatch(name) => Ok(Guard::NamedWatch(name.copy()?)),
+            Guard::NamedAlias(name, pid, end) => {
+                Ok(Guard::NamedAlias(name.copy()?, pid.copy()?, *end))
+            }
         }
     }
 }
@@ -205,8 +229,8 @@ impl Guards {
         Ok(())
     }
 
-    /// The watch of a reference ends, and with it an alias that was made so. `AllocError` if there is no memory for what is
-    /// shared with a copy, and then nothing is changed.
+    /// The watch of a reference ends, and with it an alias that was made so and the name of the watch. `AllocError` if there
+    /// is no memory for what is shared with a copy, and then nothing is changed.
     pub fn unwatch(&mut self, reference: &RefId) -> Result<(), AllocError>
         ensures ok { OnOk result ((v : Contents) → AreGuards self.old v → AreGuards self.new (changed (GuardUnwatched (ref_of reference.now)) v)) }
         ensures err { OnErr result (IsUnchanged self.old self.new) }
@@ -216,7 +240,31 @@ impl Guards {
                 self.clear(reference)?;
                 Ok(())
             }
+            Some(Guard::NamedWatch(_)) => {
+                self.clear(reference)?;
+                Ok(())
+            }
+            Some(Guard::NamedAlias(_, _, AliasEnd::WithWatch | AliasEnd::ByReply)) => {
+                self.clear(reference)?;
+                Ok(())
+            }
+            Some(Guard::NamedAlias(_, owner, AliasEnd::ByUnalias)) => {
+                let alias = Guard::Alias(owner.copy()?, AliasEnd::ByUnalias);
+                self.set(reference, alias)?;
+                Ok(())
+            }
             _ => Ok(()),
+        }
+    }
+
+    /// The name by which the watch of a reference was made, if it was made by one. It takes no memory.
+    pub fn watch_name(&self, reference: &RefId) -> Option<&Atom>
+        ensures { option_copied result ≡ watch_name (guard_in self.now (ref_of reference.now)) }
+    {
+        match self.guard_of(reference) {
+            Some(Guard::NamedWatch(name)) => Some(name),
+            Some(Guard::NamedAlias(name, _, _)) => Some(name),
+            _ => None,
         }
     }
 
@@ -226,6 +274,7 @@ impl Guards {
     {
         match self.guard_of(reference) {
             Some(Guard::Alias(owner, _)) => Some(owner),
+            Some(Guard::NamedAlias(_, owner, _)) => Some(owner),
             _ => None,
         }
     }
@@ -236,6 +285,7 @@ impl Guards {
     {
         match self.guard_of(reference) {
             Some(Guard::Alias(owner, _)) => pid == owner,
+            Some(Guard::NamedAlias(_, owner, _)) => pid == owner,
             _ => false,
         }
     }
@@ -246,6 +296,7 @@ impl Guards {
     {
         match self.guard_of(reference) {
             Some(Guard::Alias(owner, AliasEnd::ByReply)) => pid == owner,
+            Some(Guard::NamedAlias(_, owner, AliasEnd::ByReply)) => pid == owner,
             _ => false,
         }
     }

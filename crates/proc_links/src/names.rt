@@ -1,19 +1,23 @@
 // The names of processes (Erlang reference manual, "Processes": "Registered Processes").
-ghost use Rattle.std.specs.Prelude.{◌≡◌, ◌∷◌, [], IfOk, IsSome, OnOk, OnErr, Some, None, option_copied, true};
-ghost use Rattle.std.specs.BTreeMap.{get};
+ghost use Rattle.std.specs.Prelude.{◌≡◌, ◌∷◌, [], IfOk, IsSome, OnOk, OnErr, Some, None, map, option_copied, true};
+ghost use Rattle.std.specs.BTreeMap.{get, IsOrdered};
 ghost use Rattle.term_core.specs.Order.{order_of_lists};
 ghost use Rattle.world_model.specs.Names as names;
+ghost use Rattle.std.specs.FinMap.{keys};
+ghost use Rattle.world_model.specs.Cells as cells;
 ghost use Rattle.world_model.specs.Cells.{Contents};
 ghost use Rattle.world_model.specs.Changes.{after, NameCleared, NameSet, HolderSet, HolderCleared};
 ghost use Rattle.world_model.specs.Ends.{name_left};
 ghost use Rattle.world_model.specs.ProcessLines.{register_refusal, unregister_line};
+ghost use Rattle.world_model.specs.Terms.{atom, list_of};
+ghost use Rattle.term_core.specs.Term.{meaning_of};
 
 use crate::process::Life;
 use std::alloc::{AllocError, Global};
 use std::collections::BTreeMap;
 use std::hash::{Hash, Hasher};
 use std::sync::Arc;
-use term_core::{Atom, Pid};
+use term_core::{Atom, Pid, Term, list_onto};
 
 /// What a call of names resulted in.
 #[derive(Clone, Copy, Debug, PartialEq, Eq)]
@@ -58,7 +62,7 @@ impl Clone for Bearers {
 }
 
 impl Bearers {
-    ghost use Rattle.proc_links.specs.Bearers.{AreSame, IsPut, put_at};
+    ghost use Rattle.proc_links.specs.Bearers.{AreSame, IsPut, listed, put_at};
 
     // Whether each name has the same holder, and each process the same name.
     fn is_same(&self, other: &Bearers) -> bool
@@ -73,6 +77,18 @@ impl Bearers {
     // Feeds a hasher with each name and its holder.
     fn feed<H: Hasher>(&self, state: &mut H) {
         self.holders.hash(state);
+    }
+
+    // All names that are held, in their order.
+    fn all(&self, alloc: Global) -> Result<Vec<Term>, AllocError>
+        ensures names { IfOk result (λ names. map meaning_of names.items ≡ map atom (listed self.now)) }
+        ensures ordered { OnOk result (IsOrdered order_of_lists self.now.holders) }
+    {
+        let mut names = Vec::new(alloc);
+        for (name, _) in self.holders.iter() {
+            names.push(Term::Atom(name.copy()?))?;
+        }
+        Ok(names)
     }
 
     // A process holds a name, and has it, whatever either had before.
@@ -143,7 +159,7 @@ impl Bearers {
 
 impl Names {
     ghost use Rattle.proc_links.specs.Process.{is_alive};
-    ghost use Rattle.proc_links.specs.Names.{AreHolders, AreBorne, IsNamed, IsUnchanged, Registers, Unregisters, Leaves, holder_in, name_in, refusal_of, changes_registered};
+    ghost use Rattle.proc_links.specs.Names.{AreHolders, AreListed, AreBorne, IsNamed, IsUnchanged, Registers, Unregisters, Leaves, holder_in, name_in, refusal_of, changes_registered};
 
     /// No names, or `AllocError` if there is no memory.
     pub fn new(alloc: Global) -> Result<Names, AllocError>
@@ -175,6 +191,7 @@ impl Names {
     pub fn is_same(&self, other: &Names) -> bool
         ensures same { result ≡ true → IsUnchanged self.now other.now }
         ensures holders { result ≡ true → (v : Contents) → AreHolders other.now v → AreHolders self.now v }
+        ensures listed { result ≡ true → (v : Contents) → AreListed other.now v → AreListed self.now v }
         ensures names { result ≡ true → (v : Contents) → AreBorne other.now v → AreBorne self.now v }
     {
         self.bearers.is_same(&other.bearers)
@@ -200,6 +217,15 @@ impl Names {
         self.bearers.names.get(pid)
     }
 
+    /// All names that are held, as a list in the order of terms, or `AllocError` if there is no memory for it, or where the
+    /// copies of the names can no longer be counted.
+    pub fn list(&self, alloc: Global) -> Result<Term, AllocError>
+        ensures { IfOk result (λ list. (v : Contents) → AreListed self.now v → meaning_of list ≡ list_of (map atom (keys (v cells.Holders)))) }
+    {
+        let names = self.bearers.all(alloc)?;
+        list_onto(alloc, names, Term::Nil)
+    }
+
     /// Whether `register/2` of a name for a process is served, with whether the process lives. It takes no memory.
     pub fn judge_registration(&self, name: &Atom, pid: &Pid, life: Life) -> Naming
         ensures { refusal_of result ≡ register_refusal name.now (is_alive life) (holder_in self.now name.now) (name_in self.now pid.now) }
@@ -219,6 +245,7 @@ impl Names {
         ensures refusal { IfOk result (λ naming. refusal_of naming ≡ register_refusal name.now (is_alive life) (holder_in self.old name.now) (name_in self.old pid.now)) }
         ensures ok { IfOk result (λ naming. Registers naming name.now pid.now self.old self.new) }
         ensures holders { IfOk result (λ naming. (v : Contents) → AreHolders self.old v → AreHolders self.new (after (changes_registered naming name.now pid.now) v)) }
+        ensures listed { IfOk result (λ naming. (v : Contents) → AreListed self.old v → AreListed self.new (after (changes_registered naming name.now pid.now) v)) }
         ensures names { IfOk result (λ naming. (v : Contents) → AreBorne self.old v → AreBorne self.new (after (changes_registered naming name.now pid.now) v)) }
         ensures err { OnErr result (IsUnchanged self.old self.new) }
     {
@@ -235,6 +262,7 @@ impl Names {
     pub fn put(&mut self, name: &Atom, pid: &Pid) -> Result<(), AllocError>
         ensures ok { OnOk result (IsNamed name.now pid.now (Some pid.now) (Some name.now) self.old self.new) }
         ensures holders { OnOk result ((v : Contents) → AreHolders self.old v → AreHolders self.new (after (HolderSet name.now pid.now ∷ NameSet pid.now name.now ∷ []) v)) }
+        ensures listed { OnOk result ((v : Contents) → AreListed self.old v → AreListed self.new (after (HolderSet name.now pid.now ∷ NameSet pid.now name.now ∷ []) v)) }
         ensures names { OnOk result ((v : Contents) → AreBorne self.old v → AreBorne self.new (after (HolderSet name.now pid.now ∷ NameSet pid.now name.now ∷ []) v)) }
         ensures err { OnErr result (IsUnchanged self.old self.new) }
     {
@@ -248,6 +276,7 @@ impl Names {
     pub fn take(&mut self, name: &Atom, pid: &Pid) -> Result<(), AllocError>
         ensures ok { OnOk result (IsNamed name.now pid.now None None self.old self.new) }
         ensures holders { OnOk result ((v : Contents) → AreHolders self.old v → AreHolders self.new (after (HolderCleared name.now ∷ NameCleared pid.now ∷ []) v)) }
+        ensures listed { OnOk result ((v : Contents) → AreListed self.old v → AreListed self.new (after (HolderCleared name.now ∷ NameCleared pid.now ∷ []) v)) }
         ensures names { OnOk result ((v : Contents) → AreBorne self.old v → AreBorne self.new (after (HolderCleared name.now ∷ NameCleared pid.now ∷ []) v)) }
         ensures err { OnErr result (IsUnchanged self.old self.new) }
     {
@@ -261,6 +290,7 @@ impl Names {
     /// `AllocError` if there is no memory for what is shared with a copy, and then nothing is changed.
     pub fn bare(&mut self, pid: &Pid) -> Result<(), AllocError>
         ensures holders { OnOk result ((v : Contents) → AreHolders self.old v → AreHolders self.new (after (NameCleared pid.now ∷ []) v)) }
+        ensures listed { OnOk result ((v : Contents) → AreListed self.old v → AreListed self.new (after (NameCleared pid.now ∷ []) v)) }
         ensures names { OnOk result ((v : Contents) → AreBorne self.old v → AreBorne self.new (after (NameCleared pid.now ∷ []) v)) }
         ensures err { OnErr result (IsUnchanged self.old self.new) }
     {
@@ -278,6 +308,7 @@ impl Names {
         ensures refusal { IfOk result (λ naming. refusal_of naming ≡ (unregister_line name.now (holder_in self.old name.now)).refusal) }
         ensures ok { OnOk result (Unregisters name.now (holder_in self.old name.now) self.old self.new) }
         ensures holders { OnOk result ((v : Contents) → AreHolders self.old v → AreHolders self.new (after (unregister_line name.now (holder_in self.old name.now)).changes v)) }
+        ensures listed { OnOk result ((v : Contents) → AreListed self.old v → AreListed self.new (after (unregister_line name.now (holder_in self.old name.now)).changes v)) }
         ensures names { OnOk result ((v : Contents) → AreBorne self.old v → AreBorne self.new (after (unregister_line name.now (holder_in self.old name.now)).changes v)) }
         ensures err { OnErr result (IsUnchanged self.old self.new) }
     {
@@ -294,6 +325,7 @@ impl Names {
     pub fn free(&mut self, pid: &Pid) -> Result<(), AllocError>
         ensures ok { OnOk result (Leaves pid.now (name_in self.old pid.now) self.old self.new) }
         ensures holders { OnOk result ((v : Contents) → AreHolders self.old v → AreHolders self.new (after (name_left pid.now (name_in self.old pid.now)) v)) }
+        ensures listed { OnOk result ((v : Contents) → AreListed self.old v → AreListed self.new (after (name_left pid.now (name_in self.old pid.now)) v)) }
         ensures names { OnOk result ((v : Contents) → AreBorne self.old v → AreBorne self.new (after (name_left pid.now (name_in self.old pid.now)) v)) }
         ensures err { OnErr result (IsUnchanged self.old self.new) }
     {

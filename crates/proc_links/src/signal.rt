@@ -38,7 +38,9 @@ pub fn on_signal(
         Signal::Message(message) => Ok(Effect::Put(message.copy()?)),
         Signal::Exit(reason) => on_exit(alloc, Sender::Another, from, reason, exits),
         Signal::LinkExit(reason) => links.on_link_exit(alloc, from, to, reason, exits),
-        Signal::Down(reference, reason) => watchers.on_down(alloc, reference, from, reason),
+        Signal::Down(reference, reason) => {
+            watchers.on_down(alloc, reference, from, guards.watch_name(reference), reason)
+        }
         Signal::Guarded(reference, message) => guards.on_message(reference, to, message),
         Signal::Elapsed(reference, message) => guards.on_elapsed(reference, message),
     }

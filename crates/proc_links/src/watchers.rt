@@ -11,7 +11,7 @@ ghost use Rattle.world_model.specs.Cells.{Contents};
 ghost use Rattle.world_model.specs.Changes.{after};
 ghost use Rattle.world_model.specs.Events as events;
 ghost use Rattle.world_model.specs.ProcessLines.{watch_begins, watch_ends};
-ghost use Rattle.world_model.specs.Signals.{down_fate, goes_with};
+ghost use Rattle.world_model.specs.Signals.{down_fate, goes_with, watched_as};
 ghost use Rattle.proc_groups.specs.Groups.{members_in, members_of};
 ghost use Rattle.world_model.specs.Names.{ref_of};
 
@@ -22,7 +22,7 @@ use std::alloc::{AllocError, Global};
 use std::collections::{BTreeMap, BTreeSet};
 use std::hash::{Hash, Hasher};
 use std::sync::Arc;
-use term_core::{Pid, RefId, Term};
+use term_core::{Atom, Pid, RefId, Term};
 
 /// The watches of each process, and the process that each reference watches.
 #[derive(Drop)]
@@ -218,18 +218,23 @@ impl Watchers {
     }
 
     /// What the signal of a watch does, which this process put at its end: it is dropped where the watch is gone, and
-    /// else it is a message. `AllocError` if there is no memory for a message.
+    /// else it is a message, with the name by which the watch was made if it was made by one. `AllocError` if there is no
+    /// memory for a message.
     pub fn on_down(
         &self,
         alloc: Global,
         reference: &RefId,
         from: &Pid,
+        name: Option<&Atom>,
         reason: &Term,
     ) -> Result<Effect, AllocError>
-        ensures { IfOk result (λ effect. fate_in effect ≡ down_fate (watch_in self.now (ref_of reference.now)) (ref_of reference.now) from.now (meaning_of reason.now)) }
+        ensures { IfOk result (λ effect. fate_in effect ≡ down_fate (watch_in self.now (ref_of reference.now)) (ref_of reference.now) (watched_as from.now (option_copied name.entry)) (meaning_of reason.now)) }
     {
         match self.watch_of(reference) {
-            Some(_) => Ok(Effect::Put(down_message(alloc, reference, from, reason)?)),
+            Some(_) => {
+                let message = down_message(alloc, reference, from, name, reason)?;
+                Ok(Effect::Put(message))
+            }
             None => Ok(Effect::Dropped),
         }
     }

@@ -1,5 +1,5 @@
 // Mailboxes.
-ghost use Rattle.std.specs.Prelude.{◌≡◌, ◌<◌, Bool, [], ◌∷◌, ◌++◌, IfOk, IfSome, OnOk, OnErr, Some, length, slice_get, option_and_then, option_map};
+ghost use Rattle.std.specs.Prelude.{◌≡◌, ◌<◌, ◌^◌, Bool, [], ◌∷◌, ◌++◌, IfOk, IfSome, OnOk, OnErr, Some, length, slice_get, option_and_then, option_map};
 ghost use Rattle.std.specs.Cmp.Lexicographic.{pointwise};
 ghost use Rattle.std.specs.List.{remove};
 ghost use Rattle.term_core.specs.Meaning.{Meaning};
@@ -87,9 +87,10 @@ impl Mailbox {
         self.messages.feed(state);
     }
 
-    /// How many messages there are.
+    /// How many messages there are, fewer than 2^63.
     pub fn len(&self) -> usize
-        ensures { result ≡ length self.now }
+        ensures length { result ≡ length self.now }
+        ensures fits { result < 2 ^ 63 }
     {
         self.messages.len()
     }

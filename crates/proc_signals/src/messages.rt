@@ -1,5 +1,5 @@
 // The messages of a mailbox, as they lie in memory.
-ghost use Rattle.std.specs.Prelude.{◌≡◌, ◌<◌, [], ◌∷◌, ◌++◌, IfOk, OnOk, OnErr, Some, length, slice_get, option_map, map};
+ghost use Rattle.std.specs.Prelude.{◌≡◌, ◌<◌, ◌^◌, [], ◌∷◌, ◌++◌, IfOk, OnOk, OnErr, Some, length, slice_get, option_map, map};
 ghost use Rattle.std.specs.Cmp.Lexicographic.{pointwise};
 ghost use Rattle.std.specs.List.{remove};
 ghost use Rattle.term_core.specs.Term.{meaning_of};
@@ -73,9 +73,10 @@ impl Messages {
         }
     }
 
-    /// How many there are.
+    /// How many there are, fewer than 2^63.
     pub(crate) fn len(&self) -> usize
-        ensures { result ≡ length self.now }
+        ensures length { result ≡ length self.now }
+        ensures fits { result < 2 ^ 63 }
     {
         self.items.len()
     }

@@ -4,7 +4,7 @@ use Rattle.std.specs.Fmt.{decimal, signed_decimal}
 use Rattle.std.specs.List.{AllByRecursion, flat_map}
 use Rattle.core_calls.specs.Calls.{signature}
 use Rattle.core_calls.specs.declared.call.CallKind.{CallKind}
-use Rattle.core_calls.specs.declared.call.CallKind.TheVariants.{Spawn, SpawnLink, SpawnMonitor, Bang, Send, Exit, Link, Unlink, Monitor, Demonitor, DemonitorWith, ProcessFlag, Register, Unregister, Whereis, IsProcessAlive, MakeRef, MonitorWith, Alias, AliasWith, Unalias, StartTimer, SendAfter, CancelTimer, ReadTimer, New, Lookup, Member, LookupElement, First, Last, Next, Prev, TableToList, Insert, InsertNew, DeleteTable, DeleteKey, DeleteObject, DeleteAllObjects, Take, UpdateCounter, UpdateElement, GiveAway, SetOptions, Info}
+use Rattle.core_calls.specs.declared.call.CallKind.TheVariants.{Spawn, SpawnLink, SpawnMonitor, Bang, Send, Exit, Link, Unlink, Monitor, Demonitor, DemonitorWith, ProcessFlag, Register, Unregister, Whereis, IsProcessAlive, MakeRef, MonitorWith, Alias, AliasWith, Unalias, StartTimer, SendAfter, CancelTimer, ReadTimer, Registered, ProcessInfo, New, Lookup, Member, LookupElement, First, Last, Next, Prev, TableToList, Insert, InsertNew, DeleteTable, DeleteKey, DeleteObject, DeleteAllObjects, Take, UpdateCounter, UpdateCounterWith, UpdateElement, GiveAway, SetOptions, Info, InfoAll}
 use Rattle.world_identities.specs.Order.{number_of_rule}
 use Rattle.report_identities.specs.Lawful.{IsLawfulIdentity}
 use Rattle.world_event_text.specs.CallText.{name_of_rule, text_of_arguments, text_of_broken_rule, text_of_call, text_of_owner, text_of_rule}
@@ -163,6 +163,8 @@ no_end-module StartTimer = refl
 no_end-module SendAfter = refl
 no_end-module CancelTimer = refl
 no_end-module ReadTimer = refl
+no_end-module Registered = refl
+no_end-module ProcessInfo = refl
 no_end-module New = refl
 no_end-module Lookup = refl
 no_end-module Member = refl
@@ -180,10 +182,12 @@ no_end-module DeleteObject = refl
 no_end-module DeleteAllObjects = refl
 no_end-module Take = refl
 no_end-module UpdateCounter = refl
+no_end-module UpdateCounterWith = refl
 no_end-module UpdateElement = refl
 no_end-module GiveAway = refl
 no_end-module SetOptions = refl
 no_end-module Info = refl
+no_end-module InfoAll = refl
 
 no_end-function : (kind : CallKind) → no_end (signature kind).function_name ≡ true
 no_end-function Spawn = refl
@@ -211,6 +215,8 @@ no_end-function StartTimer = refl
 no_end-function SendAfter = refl
 no_end-function CancelTimer = refl
 no_end-function ReadTimer = refl
+no_end-function Registered = refl
+no_end-function ProcessInfo = refl
 no_end-function New = refl
 no_end-function Lookup = refl
 no_end-function Member = refl
@@ -228,10 +234,12 @@ no_end-function DeleteObject = refl
 no_end-function DeleteAllObjects = refl
 no_end-function Take = refl
 no_end-function UpdateCounter = refl
+no_end-function UpdateCounterWith = refl
 no_end-function UpdateElement = refl
 no_end-function GiveAway = refl
 no_end-function SetOptions = refl
 no_end-function Info = refl
+no_end-function InfoAll = refl
 
 no_end-call : (kind : CallKind) (ms : List Meaning) → AllByRecursion IsLawful ms → HasNoEnd (text_of_call kind ms)
 no_end-call kind ms h =

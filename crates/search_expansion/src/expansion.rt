@@ -73,7 +73,7 @@ fn expanded<'m, O: Observer>(
 ///
 /// # Errors
 ///
-/// What the job is called, where there was no memory.
+/// What the job is called, where there was no memory: the job itself is spent, and what was found below it is dropped.
 pub fn expand<'m, O: Observer>(
     alloc: Global,
     program: &Module,

@@ -43,7 +43,7 @@ places_agree m records v is (Inbox p) = record { alive = is.processes_are.alive 
 places_agree m records v is (Channel s r) = is.channels_are s r
 places_agree m records v is Links = is.links_are
 places_agree m records v is Watches = (is.watchers_are, is.watches_are, is.guards_are)
-places_agree m records v is Names = (is.holders_are, is.borne_are)
+places_agree m records v is Names = (is.holders_are, is.names_are, is.borne_are)
 places_agree m records v is Tables = is.tables_are
 
 -- ---- from each place to all
@@ -75,6 +75,7 @@ agree_of_places m records v each = record {
   watches_are = (each Watches).1;
   guards_are = (each Watches).2;
   holders_are = (each Names).0;
-  borne_are = (each Names).1;
+  names_are = (each Names).1;
+  borne_are = (each Names).2;
   tables_are = each Tables;
 }

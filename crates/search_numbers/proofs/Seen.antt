@@ -14,7 +14,7 @@ use Rattle.world_model.specs.Cells as cells
 use Rattle.world_model.specs.Cells.{Cell, Contents, meet}
 use Rattle.world_model.specs.Changes.{Change, cell_of}
 use Rattle.world_model.specs.Mailboxes.{left_of}
-use Rattle.world_model.specs.Names.{IsAmong, Pid, Ref, same_pid}
+use Rattle.world_model.specs.Names.{IsAmong, Name, Pid, Ref, same_pid}
 use Rattle.world_model.specs.Rows.{Key, some_if}
 use Rattle.world_model.proofs.Meeting.{both, pid_itself, pids_same, whole, whole_same}
 use Rattle.world_model.proofs.Outcomes.{touches}
@@ -74,7 +74,7 @@ seen_at m (Channel s r) records v w same is =
     subst₂ (λ front tail. AreWaiting (between records.channels s r) front tail) (same (cells.Front s r) (pair_itself s r)) (same (cells.Tail s r) (pair_itself s r)) is
 seen_at m Links records v w same is = λ p. is p ∙ same (cells.Links p) refl
 seen_at m Watches records v w same is = ((λ p. is.0 p ∙ same (cells.Watchers p) refl), (λ ref. is.1 ref ∙ same (cells.Watch ref) refl), (λ ref. is.2 ref ∙ same (cells.Guard ref) refl))
-seen_at m Names records v w same is = ((λ name. is.0 name ∙ same (cells.Holder name) refl), (λ p. is.1 p ∙ same (cells.NameOf p) refl))
+seen_at m Names records v w same is = ((λ name. is.0 name ∙ same (cells.Holder name) refl), (λ name. is.1 name ∙ ap (λ holders. get holders name) (same cells.Holders refl)), (λ p. is.2 p ∙ same (cells.NameOf p) refl))
 seen_at m Tables records v w same is = tables_seen records.tables v w same is
 
 -- ---- where the cells lie that a place sees
@@ -102,8 +102,13 @@ rows_seen : (q : Place) (t : Ref) (key : Key) → sees q (cells.Rows t) ≡ sees
 rows_seen (Course p) t key = refl
 rows_seen q t key = refl
 
+holders_seen : (q : Place) (name : Name) → sees q cells.Holders ≡ sees q (cells.Holder name)
+holders_seen (Course p) name = refl
+holders_seen q name = refl
+
 whole_seen : (q : Place) (c : Cell) → sees q (whole c) ≡ sees q c
 whole_seen q (cells.Row t key) = rows_seen q t key
+whole_seen q (cells.Holder name) = holders_seen q name
 whole_seen q c = refl
 
 -- a place that sees a cell sees each cell that it meets

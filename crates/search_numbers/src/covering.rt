@@ -43,6 +43,7 @@ fn place_of(cell: View<'_>) -> Result<Place, AllocError>
         View::OfChannel(_, from, to) => Ok(Place::Channel(from.copy()?, to.copy()?)),
         View::OfName(NamePart::Holder, _) => Ok(Place::Names),
         View::OfName(NamePart::TableName, _) => Ok(Place::Tables),
+        View::Holders => Ok(Place::Names),
         View::OfReference(ReferencePart::Watch, _) => Ok(Place::Watches),
         View::OfReference(ReferencePart::Guard, _) => Ok(Place::Watches),
         View::OfReference(ReferencePart::Table, _) => Ok(Place::Tables),

@@ -30,7 +30,7 @@ pub enum GiveFault<'m> {
     StrangeTicket(Piece<'m>),
     /// The piece was made for another ticket or another exploration, and comes back.
     StrangePiece(Piece<'m>),
-    /// There was no memory. The pool is stopped, and the ticket still out.
+    /// There was no memory. The pool is stopped, the ticket still out, and the piece dropped.
     Memory,
 }
 

@@ -183,7 +183,7 @@ impl<'m> Frontier<'m> {
     ///
     /// `StrangeTicket` where the ticket is not out, and else `StrangePiece` where the piece was made for another ticket
     /// or another exploration: the pool is unchanged, and the piece comes back. `Memory` if there is no memory: the
-    /// pool is stopped, the ticket is still out, and nothing else is changed.
+    /// pool is stopped, the ticket is still out, nothing else is changed, and the piece is dropped.
     pub fn give(&mut self, ticket: &Ticket, piece: Piece<'m>) -> Result<(), GiveFault<'m>>
         ensures given { OnOk result (Accepts self.old ticket.now piece.entry self.new) }
         ensures refused { IfErr result (λ fault. RefusesTo self.old ticket.now piece.entry fault self.new) }

@@ -54,7 +54,7 @@ fn shown_by_samples(
 ///
 /// # Errors
 ///
-/// `AllocError` if there is no memory for a world, a schedule or what it shows.
+/// `AllocError` if there is no memory for a world, a schedule or what it shows; then what was found is dropped.
 pub fn sample_schedules(
     alloc: Global,
     program: &Module,

@@ -66,7 +66,7 @@ fn integers(alloc: Global, count: usize) -> Result<Vec<Term>, Fail> {
 
 // How many arguments a call has: by its names and so many it is found.
 fn arity_of(kind: CallKind) -> usize {
-    for count in 0..4 {
+    for count in 0..5 {
         if CallKind::named(kind.module_name(), kind.function_name(), count) == Some(kind) {
             return count;
         }

@@ -3,7 +3,7 @@ use proc_links::{Effect, Guard, Guards};
 use std::alloc::{AllocError, Global};
 use std::hash::{FoldHasher, Hasher};
 use std::test::Fail;
-use term_core::{Pid, RefId, Term};
+use term_core::{Atom, Pid, RefId, Term};
 use test_support::holds;
 use world_model::alias::AliasEnd;
 
@@ -137,4 +137,86 @@ fn guards_are_compared(rt: HostRuntime) -> Result<(), Fail> {
     other.set(&reference(alloc, 7)?, alias(alloc, AliasEnd::ByUnalias)?)?;
     holds(!one.is_same(&other), "another end is the same")?;
     holds(fed(&one) != fed(&other), "another end is fed alike")
+}
+
+// The watch of a name by the first process, with an alias that ends so.
+fn named(alloc: Global, name: &str, end: AliasEnd) -> Result<Guard, AllocError> {
+    Ok(Guard::NamedAlias(Atom::new(alloc, name)?, pid(alloc, 1)?, end))
+}
+
+// Three watches of the name n with the numbers 1 to 3, each with an alias that ends in its own way, and one with the number
+// 4 without one.
+fn named_watches(alloc: Global) -> Result<Guards, AllocError> {
+    let mut guards = Guards::new(alloc)?;
+    guards.set(
+        &reference(alloc, 1)?,
+        named(alloc, "n", AliasEnd::ByUnalias)?,
+    )?;
+    guards.set(
+        &reference(alloc, 2)?,
+        named(alloc, "n", AliasEnd::WithWatch)?,
+    )?;
+    guards.set(&reference(alloc, 3)?, named(alloc, "n", AliasEnd::ByReply)?)?;
+    guards.set(
+        &reference(alloc, 4)?,
+        Guard::NamedWatch(Atom::new(alloc, "n")?),
+    )?;
+    Ok(guards)
+}
+
+// Whether the watch of this number was made by the name n.
+fn is_named(alloc: Global, guards: &Guards, number: u64) -> Result<bool, AllocError> {
+    match guards.watch_name(&reference(alloc, number)?) {
+        Some(name) => Ok(name.as_str() == "n"),
+        None => Ok(false),
+    }
+}
+
+#[test]
+fn watches_by_name_keep_it_until_they_end(rt: HostRuntime) -> Result<(), Fail> {
+    let alloc = rt.alloc();
+    let mut guards = named_watches(alloc)?;
+    for number in [1, 2, 3, 4] {
+        holds(is_named(alloc, &guards, number)?, "a watch has no name")?;
+        holds(
+            lets_in(alloc, &guards, number, 1)? == (number < 4),
+            "another alias lets a message in",
+        )?;
+        guards.unwatch(&reference(alloc, number)?)?;
+        holds(
+            !is_named(alloc, &guards, number)?,
+            "the name outlives its watch",
+        )?;
+        holds(
+            lets_in(alloc, &guards, number, 1)? == (number == 1),
+            "another alias outlives its watch",
+        )?;
+    }
+    holds(
+        guards.guard_of(&reference(alloc, 4)?).is_none(),
+        "something is left of a watch",
+    )
+}
+
+#[test]
+fn names_of_watches_are_compared(rt: HostRuntime) -> Result<(), Fail> {
+    let alloc = rt.alloc();
+    let one = named_watches(alloc)?;
+    let first = pid(alloc, 1)?;
+    holds(one.is_same(&named_watches(alloc)?), "the same is another")?;
+    holds(
+        one.ends_by_reply(&reference(alloc, 3)?, &first),
+        "a reply leaves it",
+    )?;
+    for number in [1, 4] {
+        let mut other = named_watches(alloc)?;
+        let guard = match number {
+            1 => named(alloc, "m", AliasEnd::ByUnalias)?,
+            _ => Guard::NamedWatch(Atom::new(alloc, "m")?),
+        };
+        other.set(&reference(alloc, number)?, guard)?;
+        holds(!one.is_same(&other), "another name is the same")?;
+        holds(fed(&one) != fed(&other), "another name is fed alike")?;
+    }
+    Ok(())
 }

@@ -177,6 +177,27 @@ fn names_are_free_again(rt: HostRuntime) -> Result<(), Fail> {
     Ok(())
 }
 
+// Whether a list begins with an atom.
+fn begins_with(list: &Term, text: &str) -> bool {
+    match list.as_cell() {
+        Some(pair) => pair.head().is_the_atom(text),
+        None => false,
+    }
+}
+
+#[test]
+fn names_are_listed_in_order(rt: HostRuntime) -> Result<(), Fail> {
+    let mut names = Names::new(rt.alloc())?;
+    registered(rt.alloc(), &mut names, "b", 1, Life::Lives)?;
+    registered(rt.alloc(), &mut names, "a", 2, Life::Lives)?;
+    assert!(rt; begins_with(&names.list(rt.alloc())?, "a"));
+    names.free(&pid(rt.alloc(), 2)?)?;
+    assert!(rt; begins_with(&names.list(rt.alloc())?, "b"));
+    names.free(&pid(rt.alloc(), 1)?)?;
+    assert!(rt; names.list(rt.alloc())?.as_cell().is_none());
+    Ok(())
+}
+
 fn watch_many(alloc: Global, watchers: &mut Watchers) -> Result<(), AllocError> {
     for number in 1..MANY + 1 {
         watchers.watch(alloc, &reference(alloc, 1, number)?, &pid(alloc, 2)?)?;
@@ -220,6 +241,7 @@ fn is_down(alloc: Global, watchers: &Watchers, number: u64) -> Result<bool, Allo
         alloc,
         &reference(alloc, 1, number)?,
         &pid(alloc, 2)?,
+        None,
         &reason,
     )? {
         Effect::Put(message) => Ok(message.as_tuple().is_some()),

@@ -140,21 +140,42 @@ fn takes_objects(rt: HostRuntime) -> Result<(), Fail> {
     takes(rt.alloc(), &mut table(rt.alloc(), Kind::Bag)?)
 }
 
-// Alters elements under two keys, and none under a key that is not there.
-fn alter(alloc: Global, rows: &mut Rows) -> Result<(), AllocError> {
-    rows.update_counter(alloc, &Term::Int(1), 2, -3)?;
-    rows.update_element(alloc, &Term::Int(2), 2, Term::Nil)?;
-    rows.update_element(alloc, &Term::Int(3), 2, Term::Nil)
+// What is put into an object: twice at one position, and once where it has no part.
+fn parts(alloc: Global) -> Result<Vec<(usize, Term)>, AllocError> {
+    let mut parts = Vec::new(alloc);
+    parts.push((2, Term::Int(8)))?;
+    parts.push((1, Term::Int(0)))?;
+    parts.push((3, Term::Int(9)))?;
+    parts.push((2, Term::Nil))?;
+    Ok(parts)
 }
 
-fn alters(alloc: Global, rows: &mut Rows) -> Result<(), Fail> {
-    alter(alloc, rows)?;
-    has(alloc, rows, b"[{1,-3},{2,[]}]")
+// Checks that an object with these parts is the tuple with this text.
+fn is_with(alloc: Global, parts: &[(usize, Term)], text: &[u8]) -> Result<(), Fail> {
+    let object = pair(alloc, 1, 5)?.with_parts(alloc, parts)?;
+    prints(alloc, &object.term()?, text)
 }
 
 #[test]
-fn alters_elements(rt: HostRuntime) -> Result<(), Fail> {
-    alters(rt.alloc(), &mut table(rt.alloc(), Kind::Set)?)
+fn puts_parts_into_objects(rt: HostRuntime) -> Result<(), Fail> {
+    is_with(rt.alloc(), parts(rt.alloc())?.as_slice(), b"{0,[]}")?;
+    is_with(rt.alloc(), &[], b"{1,5}")
+}
+
+// One part at a position, and one where there is none.
+fn puts_one(alloc: Global) -> Result<(), Fail> {
+    let object = pair(alloc, 1, 5)?.with_part(alloc, 2, Term::Int(-3))?;
+    let object = object.with_part(alloc, 0, Term::Nil)?;
+    prints(
+        alloc,
+        &object.with_part(alloc, 3, Term::Nil)?.term()?,
+        b"{1,-3}",
+    )
+}
+
+#[test]
+fn puts_one_part_into_an_object(rt: HostRuntime) -> Result<(), Fail> {
+    puts_one(rt.alloc())
 }
 
 // Whether two objects with these keys and values are put in, since their keys are new.

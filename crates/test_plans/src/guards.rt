@@ -165,7 +165,7 @@ const THEN: [Line; 11] = [
 ];
 
 // Checks that each line results in what it says, each as the second turn of a new world.
-fn come_then(alloc: Global, lines: &[Line]) -> Result<(), Fail> {
+pub(crate) fn come_then(alloc: Global, lines: &[Line]) -> Result<(), Fail> {
     for line in lines {
         let (call, _want, _reads, _changes) = line;
         let program = module_of(alloc, call)?;
@@ -192,7 +192,7 @@ fn aliases_and_timers_are_used(rt: HostRuntime) -> Result<(), Fail> {
 }
 
 // Checks what becomes of a signal for the first process, from itself or from its first timer, after so many turns.
-fn comes(alloc: Global, turns: u64, sender: u64, line: &Line) -> Result<(), Fail> {
+pub(crate) fn comes(alloc: Global, turns: u64, sender: u64, line: &Line) -> Result<(), Fail> {
     let (call, _want, _reads, _changes) = line;
     let program = module_of(alloc, call)?;
     let mut records = Records::open(alloc, &program)?;

@@ -2,9 +2,13 @@
 #![tactic(auto)]
 
 #[cfg(test)]
+mod counters;
+#[cfg(test)]
 mod guards;
 #[cfg(test)]
 mod lives;
+#[cfg(test)]
+mod names;
 #[cfg(test)]
 mod plans;
 #[cfg(test)]

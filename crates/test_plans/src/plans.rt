@@ -195,6 +195,7 @@ fn cell_word(cell: &Cell) -> &'static str {
         Cell::OfReference(ReferencePart::Table, _) => "Table",
         Cell::Row(_, _) => "Row",
         Cell::Rows(_) => "Rows",
+        Cell::Holders => "Holders",
     }
 }
 

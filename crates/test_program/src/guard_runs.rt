@@ -1,4 +1,4 @@
-// Transcripts of messages that references guard: aliases and timers, and what comes too late.
+// Transcripts of messages that references guard: aliases, timers and watches by name, and what comes too late.
 
 /// Whole runs, as those of the other replays.
 pub(crate) const GUARD_RUNS: &str =
@@ -482,7 +482,7 @@ status 2
 replay: 1 NotEnabled at step 6
 ----
 # What is refused of aliases and timers.
-module 'm' ['main'/0] attributes [] 'main'/0 = fun () -> do catch call 'erlang':'alias'(['explicit_unalias'|'x']) do catch call 'erlang':'alias'('reply') do catch call 'erlang':'alias'([{'alias','reply'}]) do catch call 'erlang':'unalias'('a') do catch call 'erlang':'monitor'('process',call 'erlang':'self'(),[{'tag','t'}]) do catch call 'erlang':'monitor'('process',call 'erlang':'self'(),[{'alias','reply'}]) do catch call 'erlang':'monitor'('process',call 'erlang':'self'(),'x') do catch call 'erlang':'monitor'('port',call 'erlang':'self'(),[]) do catch call 'erlang':'monitor'('process','n',[]) do catch call 'erlang':'start_timer'(-1,call 'erlang':'self'(),'x') do catch call 'erlang':'start_timer'('a',call 'erlang':'self'(),'x') do catch call 'erlang':'send_after'(1,'n','x') do catch call 'erlang':'send_after'(1,2,'x') do catch call 'erlang':'cancel_timer'('t') do catch call 'erlang':'read_timer'(call 'erlang':'self'()) 'ok' end
+module 'm' ['main'/0] attributes [] 'main'/0 = fun () -> do catch call 'erlang':'alias'(['explicit_unalias'|'x']) do catch call 'erlang':'alias'('reply') do catch call 'erlang':'alias'([{'alias','reply'}]) do catch call 'erlang':'unalias'('a') do catch call 'erlang':'monitor'('process',call 'erlang':'self'(),[{'tag','t'}]) do catch call 'erlang':'monitor'('process',call 'erlang':'self'(),[{'alias','reply'}]) do catch call 'erlang':'monitor'('process',call 'erlang':'self'(),'x') do catch call 'erlang':'monitor'('port',call 'erlang':'self'(),[]) do catch call 'erlang':'monitor'('process',2,[]) do catch call 'erlang':'start_timer'(-1,call 'erlang':'self'(),'x') do catch call 'erlang':'start_timer'('a',call 'erlang':'self'(),'x') do catch call 'erlang':'send_after'(1,'n','x') do catch call 'erlang':'send_after'(1,2,'x') do catch call 'erlang':'cancel_timer'('t') do catch call 'erlang':'read_timer'(call 'erlang':'self'()) 'ok' end
 $ replay P P P P P P P P P P P P P P P P
 1 P erlang:alias(['explicit_unalias'|'x']) -> badarg
 2 P erlang:alias('reply') -> badarg
@@ -492,7 +492,7 @@ $ replay P P P P P P P P P P P P P P P P
 6 P erlang:monitor('process',P,[{'alias','reply'}]) -> badarg
 7 P erlang:monitor('process',P,'x') -> badarg
 8 P erlang:monitor('port',P,[]) -> badarg
-9 P erlang:monitor('process','n',[]) -> badarg
+9 P erlang:monitor('process',2,[]) -> badarg
 10 P erlang:start_timer(-1,P,'x') -> badarg
 11 P erlang:start_timer('a',P,'x') -> badarg
 12 P erlang:send_after(1,'n','x') -> badarg
@@ -517,4 +517,205 @@ $ replay P P P P P P P P P P P
 10 P erlang:unalias(#P.2) -> 'false'
 11 P ends 'normal'
 status 0
+----
+# A watch by a name is one of the process that has it then: its message has the name, and comes from the watcher where nobody has it.
+module 'm' ['main'/0,'c'/0] attributes [] 'main'/0 = fun () -> let <C> = call 'erlang':'spawn'('m','c',[]) in do call 'erlang':'register'('n',C) let <R> = call 'erlang':'monitor'('process','n') in receive <X> when 'true' -> X after 0 -> 'late' 'c'/0 = fun () -> 'ok' end
+$ replay P P P P.1 P.1>P P
+1 P erlang:spawn('m','c',[]) -> P.1
+2 P erlang:register('n',P.1) -> 'true'
+3 P erlang:monitor('process','n') -> #P.3
+4 P.1 ends 'normal'
+5 P.1>P down #P.3 -> {'DOWN',#P.3,'process',{'n','nonode@nohost'},'normal'}
+6 P receives {'DOWN',#P.3,'process',{'n','nonode@nohost'},'normal'}
+status 0
+$ replay P P P P.1 P P.1>P
+1 P erlang:spawn('m','c',[]) -> P.1
+2 P erlang:register('n',P.1) -> 'true'
+3 P erlang:monitor('process','n') -> #P.3
+4 P.1 ends 'normal'
+5 P times out
+6 P.1>P down #P.3 -> {'DOWN',#P.3,'process',{'n','nonode@nohost'},'normal'}
+status 0
+$ replay P P P.1 P P>P P
+1 P erlang:spawn('m','c',[]) -> P.1
+2 P erlang:register('n',P.1) -> 'true'
+3 P.1 ends 'normal'
+4 P erlang:monitor('process','n') -> #P.3
+5 P>P down #P.3 -> {'DOWN',#P.3,'process',{'n','nonode@nohost'},'noproc'}
+6 P receives {'DOWN',#P.3,'process',{'n','nonode@nohost'},'noproc'}
+status 0
+$ replay P P P.1 P P
+1 P erlang:spawn('m','c',[]) -> P.1
+2 P erlang:register('n',P.1) -> 'true'
+3 P.1 ends 'normal'
+4 P erlang:monitor('process','n') -> #P.3
+5 P times out
+status 0
+$ replay P P P.1 P P.1>P
+1 P erlang:spawn('m','c',[]) -> P.1
+2 P erlang:register('n',P.1) -> 'true'
+3 P.1 ends 'normal'
+4 P erlang:monitor('process','n') -> #P.3
+status 2
+replay: 1 NotEnabled at step 5
+----
+# With the message of a name that nobody has an alias ends that was made with the watch.
+module 'm' ['main'/0] attributes [] 'main'/0 = fun () -> let <R> = call 'erlang':'monitor'('process','n',[{'alias','demonitor'}]) in do call 'erlang':'!'(R,'x') do call 'erlang':'demonitor'(R) receive <X> when 'true' -> X after 0 -> 'none' end
+$ replay P P P>P P>P P P P
+1 P erlang:monitor('process','n',[{'alias','demonitor'}]) -> #P.1
+2 P erlang:!(#P.1,'x') -> 'x'
+3 P>P down #P.1 -> {'DOWN',#P.1,'process',{'n','nonode@nohost'},'noproc'}
+4 P>P brings 'x' by alias #P.1 -> dropped
+5 P erlang:demonitor(#P.1) -> 'true'
+6 P receives {'DOWN',#P.1,'process',{'n','nonode@nohost'},'noproc'}
+7 P ends 'normal'
+status 0
+$ replay P P P P>P P>P P
+1 P erlang:monitor('process','n',[{'alias','demonitor'}]) -> #P.1
+2 P erlang:!(#P.1,'x') -> 'x'
+3 P erlang:demonitor(#P.1) -> 'true'
+4 P>P down #P.1 -> dropped
+5 P>P brings 'x' by alias #P.1 -> dropped
+6 P times out
+status 0
+$ replay P P>P P P P
+1 P erlang:monitor('process','n',[{'alias','demonitor'}]) -> #P.1
+2 P>P down #P.1 -> {'DOWN',#P.1,'process',{'n','nonode@nohost'},'noproc'}
+3 P erlang:!(#P.1,'x') -> 'x'
+4 P erlang:demonitor(#P.1) -> 'true'
+5 P receives {'DOWN',#P.1,'process',{'n','nonode@nohost'},'noproc'}
+status 0
+$ replay P P>P P P>P
+1 P erlang:monitor('process','n',[{'alias','demonitor'}]) -> #P.1
+2 P>P down #P.1 -> {'DOWN',#P.1,'process',{'n','nonode@nohost'},'noproc'}
+3 P erlang:!(#P.1,'x') -> 'x'
+status 2
+replay: 1 NotEnabled at step 4
+----
+# A message to a name at a node, and what is told of a process and of names.
+module 'm' ['main'/0,'c'/0] attributes [] 'main'/0 = fun () -> let <C> = call 'erlang':'spawn'('m','c',[]) in do call 'erlang':'!'({'n','nonode@nohost'},'x') do call 'erlang':'!'({'n','a@b'},'y') let <A> = call 'erlang':'process_info'(C,'registered_name') in let <B> = call 'erlang':'process_info'(C,'message_queue_len') in call 'erlang':'exit'({A,B,call 'erlang':'registered'()}) 'c'/0 = fun () -> do call 'erlang':'register'('n',call 'erlang':'self'()) receive <X> when 'true' -> X after 'infinity' -> 'x' end
+$ replay P P.1 P P P>P.1 P P P P
+1 P erlang:spawn('m','c',[]) -> P.1
+2 P.1 erlang:register('n',P.1) -> 'true'
+3 P erlang:!({'n','nonode@nohost'},'x') -> 'x'
+4 P erlang:!({'n','a@b'},'y') -> 'y'
+5 P>P.1 brings 'x'
+6 P erlang:process_info(P.1,'registered_name') -> {'registered_name','n'}
+7 P erlang:process_info(P.1,'message_queue_len') -> {'message_queue_len',1}
+8 P erlang:registered() -> ['n']
+9 P ends {{'registered_name','n'},{'message_queue_len',1},['n']}
+status 0
+$ replay P P P P.1 P P P P
+1 P erlang:spawn('m','c',[]) -> P.1
+2 P erlang:!({'n','nonode@nohost'},'x') -> 'x'
+3 P erlang:!({'n','a@b'},'y') -> 'y'
+4 P.1 erlang:register('n',P.1) -> 'true'
+5 P erlang:process_info(P.1,'registered_name') -> {'registered_name','n'}
+6 P erlang:process_info(P.1,'message_queue_len') -> {'message_queue_len',0}
+7 P erlang:registered() -> ['n']
+8 P ends {{'registered_name','n'},{'message_queue_len',0},['n']}
+status 0
+$ replay P P.1 P P P>P.1 P.1 P.1 P P P P
+1 P erlang:spawn('m','c',[]) -> P.1
+2 P.1 erlang:register('n',P.1) -> 'true'
+3 P erlang:!({'n','nonode@nohost'},'x') -> 'x'
+4 P erlang:!({'n','a@b'},'y') -> 'y'
+5 P>P.1 brings 'x'
+6 P.1 receives 'x'
+7 P.1 ends 'normal'
+8 P erlang:process_info(P.1,'registered_name') -> 'undefined'
+9 P erlang:process_info(P.1,'message_queue_len') -> 'undefined'
+10 P erlang:registered() -> []
+11 P ends {'undefined','undefined',[]}
+status 0
+$ replay P P P P P P P
+1 P erlang:spawn('m','c',[]) -> P.1
+2 P erlang:!({'n','nonode@nohost'},'x') -> 'x'
+3 P erlang:!({'n','a@b'},'y') -> 'y'
+4 P erlang:process_info(P.1,'registered_name') -> []
+5 P erlang:process_info(P.1,'message_queue_len') -> {'message_queue_len',0}
+6 P erlang:registered() -> []
+7 P ends {[],{'message_queue_len',0},[]}
+status 0
+$ replay P P.1 P P P
+1 P erlang:spawn('m','c',[]) -> P.1
+2 P.1 erlang:register('n',P.1) -> 'true'
+3 P erlang:!({'n','nonode@nohost'},'x') -> 'x'
+4 P erlang:!({'n','a@b'},'y') -> 'y'
+status 2
+replay: 1 NotEnabled at step 5
+----
+# An alias ends before the watch by name with which it was made, and a name before the watch.
+module 'm' ['main'/0,'c'/0] attributes [] 'main'/0 = fun () -> let <C> = call 'erlang':'spawn'('m','c',[]) in do call 'erlang':'register'('n',C) let <R> = call 'erlang':'monitor'('process',{'n','nonode@nohost'},[{'alias','explicit_unalias'}]) in do call 'erlang':'unalias'(R) do call 'erlang':'unregister'('n') receive <X> when 'true' -> X after 0 -> 'late' 'c'/0 = fun () -> 'ok' end
+$ replay P P P P P P.1 P.1>P P
+1 P erlang:spawn('m','c',[]) -> P.1
+2 P erlang:register('n',P.1) -> 'true'
+3 P erlang:monitor('process',{'n','nonode@nohost'},[{'alias','explicit_unalias'}]) -> #P.3
+4 P erlang:unalias(#P.3) -> 'true'
+5 P erlang:unregister('n') -> 'true'
+6 P.1 ends 'normal'
+7 P.1>P down #P.3 -> {'DOWN',#P.3,'process',{'n','nonode@nohost'},'normal'}
+8 P receives {'DOWN',#P.3,'process',{'n','nonode@nohost'},'normal'}
+status 0
+$ replay P P P P P P P.1 P.1>P
+1 P erlang:spawn('m','c',[]) -> P.1
+2 P erlang:register('n',P.1) -> 'true'
+3 P erlang:monitor('process',{'n','nonode@nohost'},[{'alias','explicit_unalias'}]) -> #P.3
+4 P erlang:unalias(#P.3) -> 'true'
+5 P erlang:unregister('n') -> 'true'
+6 P times out
+7 P.1 ends 'normal'
+8 P.1>P down #P.3 -> {'DOWN',#P.3,'process',{'n','nonode@nohost'},'normal'}
+status 0
+$ replay P P P P.1 P.1>P P P P
+1 P erlang:spawn('m','c',[]) -> P.1
+2 P erlang:register('n',P.1) -> 'true'
+3 P erlang:monitor('process',{'n','nonode@nohost'},[{'alias','explicit_unalias'}]) -> #P.3
+4 P.1 ends 'normal'
+5 P.1>P down #P.3 -> {'DOWN',#P.3,'process',{'n','nonode@nohost'},'normal'}
+6 P erlang:unalias(#P.3) -> 'true'
+7 P erlang:unregister('n') -> badarg
+8 P ends {'badarg',[]}
+status 0
+$ replay P P P P.1 P P.1>P P P
+1 P erlang:spawn('m','c',[]) -> P.1
+2 P erlang:register('n',P.1) -> 'true'
+3 P erlang:monitor('process',{'n','nonode@nohost'},[{'alias','explicit_unalias'}]) -> #P.3
+4 P.1 ends 'normal'
+5 P erlang:unalias(#P.3) -> 'true'
+6 P.1>P down #P.3 -> {'DOWN',#P.3,'process',{'n','nonode@nohost'},'normal'}
+7 P erlang:unregister('n') -> badarg
+8 P ends {'badarg',[]}
+status 0
+----
+# Of one's own name a watch tells nothing, and no alias begins with it.
+module 'm' ['main'/0] attributes [] 'main'/0 = fun () -> do call 'erlang':'register'('n',call 'erlang':'self'()) let <R> = call 'erlang':'monitor'('process','n',[{'alias','explicit_unalias'}]) in do call 'erlang':'!'(R,'x') do call 'erlang':'!'({'n','nonode@nohost'},'y') let <Q> = call 'erlang':'process_info'(call 'erlang':'self'(),'message_queue_len') in let <N> = call 'erlang':'process_info'(call 'erlang':'self'(),'registered_name') in call 'erlang':'monitor'('process',{'n','a@b'}) end
+$ replay P P P P P P P P
+1 P erlang:register('n',P) -> 'true'
+2 P erlang:monitor('process','n',[{'alias','explicit_unalias'}]) -> #P.2
+3 P erlang:!(#P.2,'x') -> 'x'
+4 P erlang:!({'n','nonode@nohost'},'y') -> 'y'
+5 P erlang:process_info(P,'message_queue_len') -> {'message_queue_len',1}
+6 P erlang:process_info(P,'registered_name') -> {'registered_name','n'}
+7 P erlang:monitor('process',{'n','a@b'}) -> badarg
+8 P ends {'badarg',[]}
+status 0
+$ replay P P P P P
+1 P erlang:register('n',P) -> 'true'
+2 P erlang:monitor('process','n',[{'alias','explicit_unalias'}]) -> #P.2
+3 P erlang:!(#P.2,'x') -> 'x'
+4 P erlang:!({'n','nonode@nohost'},'y') -> 'y'
+5 P erlang:process_info(P,'message_queue_len') -> {'message_queue_len',1}
+status 0
+$ replay P P P>P
+1 P erlang:register('n',P) -> 'true'
+2 P erlang:monitor('process','n',[{'alias','explicit_unalias'}]) -> #P.2
+status 2
+replay: 1 NotEnabled at step 3
+$ replay P P P P>P
+1 P erlang:register('n',P) -> 'true'
+2 P erlang:monitor('process','n',[{'alias','explicit_unalias'}]) -> #P.2
+3 P erlang:!(#P.2,'x') -> 'x'
+status 2
+replay: 1 NotEnabled at step 4
 "#;

@@ -271,6 +271,146 @@ $ replay P P P P P P P P P P P P P P P P P P P>P.2 P.2>P P>P.3 P.3>P P P P P P P
 49 P ends 'normal'
 status 0
 ----
+# Two processes add several numbers each in one step, of a default of their own where none is there; a limit sets the second.
+module 'm' ['main'/0,'c'/0] attributes [] 'main'/0 = fun () -> do call 'ets':'new'('t',['named_table','public']) do call 'erlang':'spawn'('m','c',[]) do call 'ets':'update_counter'('t','k',[{2,1},{3,1,1,0}],{'d',0,0}) call 'ets':'lookup'('t','k') 'c'/0 = fun () -> call 'ets':'update_counter'('t','k',[{2,10},{3,1,1,0}],{'d',100,0}) end
+$ replay P P P P.2 P
+1 P ets:new('t',['named_table','public']) -> 't'
+2 P erlang:spawn('m','c',[]) -> P.2
+3 P ets:update_counter('t','k',[{2,1},{3,1,1,0}],{'d',0,0}) -> [1,1]
+4 P.2 ets:update_counter('t','k',[{2,10},{3,1,1,0}],{'d',100,0}) -> [11,0]
+5 P ets:lookup('t','k') -> [{'k',11,0}]
+status 0
+$ replay P P P.2 P P
+1 P ets:new('t',['named_table','public']) -> 't'
+2 P erlang:spawn('m','c',[]) -> P.2
+3 P.2 ets:update_counter('t','k',[{2,10},{3,1,1,0}],{'d',100,0}) -> [110,1]
+4 P ets:update_counter('t','k',[{2,1},{3,1,1,0}],{'d',0,0}) -> [111,0]
+5 P ets:lookup('t','k') -> [{'k',111,0}]
+status 0
+$ replay P P P P P.2
+1 P ets:new('t',['named_table','public']) -> 't'
+2 P erlang:spawn('m','c',[]) -> P.2
+3 P ets:update_counter('t','k',[{2,1},{3,1,1,0}],{'d',0,0}) -> [1,1]
+4 P ets:lookup('t','k') -> [{'k',1,1}]
+5 P.2 ets:update_counter('t','k',[{2,10},{3,1,1,0}],{'d',100,0}) -> [11,0]
+status 0
+$ replay P P P P P P.2
+1 P ets:new('t',['named_table','public']) -> 't'
+2 P erlang:spawn('m','c',[]) -> P.2
+3 P ets:update_counter('t','k',[{2,1},{3,1,1,0}],{'d',0,0}) -> [1,1]
+4 P ets:lookup('t','k') -> [{'k',1,1}]
+5 P ends 'normal'
+6 P.2 ets:update_counter('t','k',[{2,10},{3,1,1,0}],{'d',100,0}) -> badarg (2 NoTable)
+status 0
+----
+# Several elements change in one step, of an object that is there.
+module 'm' ['main'/0,'c'/0] attributes [] 'main'/0 = fun () -> do call 'ets':'new'('t',['named_table','public',{'keypos',2}]) do call 'erlang':'spawn'('m','c',[]) do call 'ets':'insert'('t',{1,'k',1}) call 'ets':'lookup'('t','k') 'c'/0 = fun () -> call 'ets':'update_element'('t','k',[{1,'a'},{3,'b'},{1,'c'}]) end
+$ replay P P P.2 P P
+1 P ets:new('t',['named_table','public',{'keypos',2}]) -> 't'
+2 P erlang:spawn('m','c',[]) -> P.2
+3 P.2 ets:update_element('t','k',[{1,'a'},{3,'b'},{1,'c'}]) -> 'false'
+4 P ets:insert('t',{1,'k',1}) -> 'true'
+5 P ets:lookup('t','k') -> [{1,'k',1}]
+status 0
+$ replay P P P P.2 P
+1 P ets:new('t',['named_table','public',{'keypos',2}]) -> 't'
+2 P erlang:spawn('m','c',[]) -> P.2
+3 P ets:insert('t',{1,'k',1}) -> 'true'
+4 P.2 ets:update_element('t','k',[{1,'a'},{3,'b'},{1,'c'}]) -> 'true'
+5 P ets:lookup('t','k') -> [{'c','k','b'}]
+status 0
+$ replay P P P P P.2
+1 P ets:new('t',['named_table','public',{'keypos',2}]) -> 't'
+2 P erlang:spawn('m','c',[]) -> P.2
+3 P ets:insert('t',{1,'k',1}) -> 'true'
+4 P ets:lookup('t','k') -> [{1,'k',1}]
+5 P.2 ets:update_element('t','k',[{1,'a'},{3,'b'},{1,'c'}]) -> 'true'
+status 0
+$ replay P P P P P P.2
+1 P ets:new('t',['named_table','public',{'keypos',2}]) -> 't'
+2 P erlang:spawn('m','c',[]) -> P.2
+3 P ets:insert('t',{1,'k',1}) -> 'true'
+4 P ets:lookup('t','k') -> [{1,'k',1}]
+5 P ends 'normal'
+6 P.2 ets:update_element('t','k',[{1,'a'},{3,'b'},{1,'c'}]) -> badarg (2 NoTable)
+status 0
+----
+# All items of a private table, by another process, which gets the table.
+module 'm' ['main'/0,'c'/0] attributes [] 'main'/0 = fun () -> do call 'ets':'new'('t',['named_table','private','bag']) let <C> = call 'erlang':'spawn'('m','c',[]) in do call 'ets':'insert'('t',[{1,1},{1,2}]) call 'ets':'give_away'('t',C,'g') 'c'/0 = fun () -> call 'ets':'info'('t') end
+$ replay P P P.2 P
+1 P ets:new('t',['named_table','private','bag']) -> 't'
+2 P erlang:spawn('m','c',[]) -> P.2
+3 P.2 ets:info('t') -> [{'owner',P},{'heir','none'},{'name','t'},{'size',0},{'named_table','true'},{'type','bag'},{'keypos',1},{'protection','private'}]
+4 P ets:insert('t',[{1,1},{1,2}]) -> 'true'
+status 0
+$ replay P P P P.2 P
+1 P ets:new('t',['named_table','private','bag']) -> 't'
+2 P erlang:spawn('m','c',[]) -> P.2
+3 P ets:insert('t',[{1,1},{1,2}]) -> 'true'
+4 P.2 ets:info('t') -> [{'owner',P},{'heir','none'},{'name','t'},{'size',2},{'named_table','true'},{'type','bag'},{'keypos',1},{'protection','private'}]
+5 P ets:give_away('t',P.2,'g') -> 'true'
+status 0
+$ replay P P P P P.2
+1 P ets:new('t',['named_table','private','bag']) -> 't'
+2 P erlang:spawn('m','c',[]) -> P.2
+3 P ets:insert('t',[{1,1},{1,2}]) -> 'true'
+4 P ets:give_away('t',P.2,'g') -> 'true'
+5 P.2 ets:info('t') -> [{'owner',P.2},{'heir','none'},{'name','t'},{'size',2},{'named_table','true'},{'type','bag'},{'keypos',1},{'protection','private'}]
+status 0
+$ replay P P P P P P>P.2 P.2 P.2
+1 P ets:new('t',['named_table','private','bag']) -> 't'
+2 P erlang:spawn('m','c',[]) -> P.2
+3 P ets:insert('t',[{1,1},{1,2}]) -> 'true'
+4 P ets:give_away('t',P.2,'g') -> 'true'
+5 P ends 'normal'
+6 P>P.2 brings {'ETS-TRANSFER','t',P,'g'}
+7 P.2 ets:info('t') -> [{'owner',P.2},{'heir','none'},{'name','t'},{'size',2},{'named_table','true'},{'type','bag'},{'keypos',1},{'protection','private'}]
+8 P.2 ends 'normal'
+status 0
+----
+# Where one of several additions is refused nothing is added; who may not write puts no default in.
+module 'm' ['main'/0,'c'/0] attributes [] 'main'/0 = fun () -> do call 'ets':'new'('t',['named_table']) let <C> = call 'erlang':'spawn'('m','c',[]) in do call 'ets':'insert'('t',{'k',1,'a'}) do catch call 'ets':'update_counter'('t','k',[{2,1},{3,1}]) do call 'ets':'give_away'('t',C,'g') call 'ets':'lookup'('t','k') 'c'/0 = fun () -> do catch call 'ets':'update_counter'('t','l',{2,1},{'d',5}) call 'ets':'update_counter'('t','l',{2,1,0,9},{}) end
+$ replay P P P P P.2 P P
+1 P ets:new('t',['named_table']) -> 't'
+2 P erlang:spawn('m','c',[]) -> P.2
+3 P ets:insert('t',{'k',1,'a'}) -> 'true'
+4 P ets:update_counter('t','k',[{2,1},{3,1}]) -> badarg (14 NotInteger, owner P)
+5 P.2 ets:update_counter('t','l',{2,1},{'d',5}) -> badarg (5 ProtectedWrite, owner P)
+6 P ets:give_away('t',P.2,'g') -> 'true'
+7 P ets:lookup('t','k') -> [{'k',1,'a'}]
+status 0
+$ replay P P P.2 P.2 P P P
+1 P ets:new('t',['named_table']) -> 't'
+2 P erlang:spawn('m','c',[]) -> P.2
+3 P.2 ets:update_counter('t','l',{2,1},{'d',5}) -> badarg (5 ProtectedWrite, owner P)
+4 P.2 ets:update_counter('t','l',{2,1,0,9},{}) -> badarg (5 ProtectedWrite, owner P)
+5 P ets:insert('t',{'k',1,'a'}) -> 'true'
+6 P ets:update_counter('t','k',[{2,1},{3,1}]) -> badarg (14 NotInteger, owner P)
+7 P ets:give_away('t',P.2,'g') -> 'true'
+status 0
+$ replay P P P P P P.2 P.2 P
+1 P ets:new('t',['named_table']) -> 't'
+2 P erlang:spawn('m','c',[]) -> P.2
+3 P ets:insert('t',{'k',1,'a'}) -> 'true'
+4 P ets:update_counter('t','k',[{2,1},{3,1}]) -> badarg (14 NotInteger, owner P)
+5 P ets:give_away('t',P.2,'g') -> 'true'
+6 P.2 ets:update_counter('t','l',{2,1},{'d',5}) -> 6
+7 P.2 ets:update_counter('t','l',{2,1,0,9},{}) -> 9
+8 P ets:lookup('t','k') -> [{'k',1,'a'}]
+status 0
+$ replay P P P P P P P P.2 P.2 P.2
+1 P ets:new('t',['named_table']) -> 't'
+2 P erlang:spawn('m','c',[]) -> P.2
+3 P ets:insert('t',{'k',1,'a'}) -> 'true'
+4 P ets:update_counter('t','k',[{2,1},{3,1}]) -> badarg (14 NotInteger, owner P)
+5 P ets:give_away('t',P.2,'g') -> 'true'
+6 P ets:lookup('t','k') -> [{'k',1,'a'}]
+7 P ends 'normal'
+8 P.2 ets:update_counter('t','l',{2,1},{'d',5}) -> 6
+9 P.2 ets:update_counter('t','l',{2,1,0,9},{}) -> 9
+10 P.2 ends 'normal'
+status 0
+----
 # Each call of the process dictionary, and what they gave.
 module 'm' ['main'/0] attributes [] 'main'/0 = fun () -> let <A> = call 'erlang':'put'('b',1) in let <B> = call 'erlang':'put'('a',2) in let <C> = call 'erlang':'put'('b',3) in let <D> = call 'erlang':'get'() in let <E> = call 'erlang':'get'('a') in let <F> = call 'erlang':'get_keys'() in let <G> = call 'erlang':'get_keys'(3) in let <H> = call 'erlang':'erase'('a') in let <I> = call 'erlang':'erase'() in call 'erlang':'exit'({A,B,C,D,E,F,G,H,I,call 'erlang':'get'()}) end
 $ replay P

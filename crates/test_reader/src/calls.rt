@@ -33,6 +33,8 @@ call 'erlang':'start_timer'(1,2,3)
 call 'erlang':'send_after'(1,2,3)
 call 'erlang':'cancel_timer'(1)
 call 'erlang':'read_timer'(1)
+call 'erlang':'registered'()
+call 'erlang':'process_info'(1,2)
 call 'ets':'new'(1,2)
 call 'ets':'lookup'(1,2)
 call 'ets':'member'(1,2)
@@ -50,10 +52,12 @@ call 'ets':'delete_object'(1,2)
 call 'ets':'delete_all_objects'(1)
 call 'ets':'take'(1,2)
 call 'ets':'update_counter'(1,2,3)
+call 'ets':'update_counter'(1,2,3,4)
 call 'ets':'update_element'(1,2,3)
 call 'ets':'give_away'(1,2,3)
 call 'ets':'setopts'(1,2)
 call 'ets':'info'(1,2)
+call 'ets':'info'(1)
 ";
 
 // Whether an expression is a call of this kind.
@@ -146,7 +150,19 @@ module 'm' ['main'/0] attributes [] 'main'/0 = fun () -> call 'ets':'delete'() e
 module 'm' ['main'/0] attributes [] 'main'/0 = fun () -> call 'ets':'delete'(1,2,3) end
 
 8 UnsupportedCall at 57
-module 'm' ['main'/0] attributes [] 'main'/0 = fun () -> call 'ets':'info'(1) end
+module 'm' ['main'/0] attributes [] 'main'/0 = fun () -> call 'ets':'info'() end
+
+8 UnsupportedCall at 57
+module 'm' ['main'/0] attributes [] 'main'/0 = fun () -> call 'ets':'info'(1,2,3) end
+
+8 UnsupportedCall at 57
+module 'm' ['main'/0] attributes [] 'main'/0 = fun () -> call 'ets':'update_counter'(1,2) end
+
+8 UnsupportedCall at 57
+module 'm' ['main'/0] attributes [] 'main'/0 = fun () -> call 'ets':'update_counter'(1,2,3,4,5) end
+
+8 UnsupportedCall at 57
+module 'm' ['main'/0] attributes [] 'main'/0 = fun () -> call 'ets':'update_element'(1,2,3,4) end
 
 8 UnsupportedCall at 57
 module 'm' ['main'/0] attributes [] 'main'/0 = fun () -> call 'ets':'new'(1) end

@@ -311,7 +311,65 @@ const ELEMENTS_ARE_UPDATED: &str = "\
 0 update_element('t','none',{0,1}) -> 12 of P
 0 update_element('t','none',{2,1}) -> 12 of P
 0 update_element('t','b',{1,1}) -> 'true'
-0 tab2list('t') -> [{'w',1},{'new',2},{5,'a',{'t'}},{1,'b'},{1,{},'c'},{7,[1,2]}]";
+0 tab2list('t') -> [{'w',1},{'new',2},{5,'a',{'t'}},{1,'b'},{1,{},'c'},{7,[1,2]}]
+
+% update_counter with several additions, one after the other, in a set
+0 new('t',['named_table']) -> 't'
+0 insert('t',[{'k',5,'a',7},{'m'}]) -> 'true'
+0 update_counter('t','k',[{2,1},{4,-2}]) -> [6,5]
+0 update_counter('t','k',[{2,1},{2,10},{2,-5}]) -> [7,17,12]
+0 update_counter('t','k',[{4,1}]) -> [6]
+0 update_counter('t','k',[]) -> []
+0 update_counter('t','m',[]) -> []
+0 update_counter('t','none',[]) -> 13 of P
+0 update_counter('t','none',[{2,1}]) -> 13 of P
+0 update_counter('t','k',[{2,1},{3,1}]) -> 14 of P
+0 update_counter('t','k',[{2,1},{5,1}]) -> 12 of P
+0 update_counter('t','k',[{2,1},{2,9223372036854775807}]) -> 19 of P
+0 tab2list('t') -> [{'k',12,'a',6},{'m'}]
+
+% update_counter with limits, in an ordered set
+0 new('t',['named_table','ordered_set']) -> 't'
+0 insert('t',{'k',5}) -> 'true'
+0 update_counter('t','k',{2,4,9,0}) -> 9
+0 update_counter('t','k',{2,1,9,0}) -> 0
+0 update_counter('t','k',{2,0,-1,7}) -> 7
+0 update_counter('t','k',{2,0,7,1}) -> 7
+0 update_counter('t','k',{2,-2,5,100}) -> 5
+0 update_counter('t','k',{2,-1,5,100}) -> 100
+0 update_counter('t','k',{2,-1,200,3}) -> 3
+0 update_counter('t','k',[{2,1,9,0},{2,6},{2,1,9,0}]) -> [4,10,0]
+0 update_counter('t','k',{2,9223372036854775807,9223372036854775807,1}) -> 9223372036854775807
+0 update_counter('t','k',{2,1,9223372036854775807,-9223372036854775808}) -> -9223372036854775808
+0 update_counter('t','k',{2,-1,-9223372036854775808,9223372036854775807}) -> 9223372036854775807
+0 update_counter('t','k',[{2,1,5,6},{2,9223372036854775807}]) -> 19 of P
+0 lookup('t','k') -> [{'k',9223372036854775807}]
+
+% update_counter with a default, in a set
+0 new('t',['named_table']) -> 't'
+0 update_counter('t','k',1,{'d',3}) -> 4
+0 update_counter('t','k',1,{'d',3}) -> 5
+0 update_counter('t','a',[{3,1},{2,2},{3,1}],{'d',1,1,'x'}) -> [2,3,3]
+0 update_counter('t','b',[],{'d'}) -> []
+0 update_counter('t','c',{2,8,9,0},{'d',2}) -> 0
+0 tab2list('t') -> [{'a',3,3,'x'},{'b'},{'c',0},{'k',5}]
+
+% update_counter with a default, in an ordered set whose keys come second
+0 new('t',['named_table','ordered_set',{'keypos',2}]) -> 't'
+0 update_counter('t','k',1,{1,'d',5}) -> 6
+0 update_counter('t','k',{1,7},{1,'d',5}) -> 8
+0 update_counter('t','l',{1,7},{1,'d'}) -> 8
+0 tab2list('t') -> [{8,'k',6},{8,'l'}]
+
+% update_element with several parts, one after the other
+0 new('t',['named_table']) -> 't'
+0 insert('t',[{'k',1,2},{'m'}]) -> 'true'
+0 update_element('t','k',[{2,'a'},{3,'b'},{2,'c'}]) -> 'true'
+0 update_element('t','k',[]) -> 'true'
+0 update_element('t','m',[]) -> 'true'
+0 update_element('t','m',[{2,1}]) -> 12 of P
+0 update_element('t','none',[{2,1}]) -> 'false'
+0 tab2list('t') -> [{'k','c','b'},{'m'}]";
 
 #[test]
 fn elements_are_updated(rt: HostRuntime) -> Result<(), Fail> {
@@ -331,6 +389,7 @@ Made1 = 0 new('t',['bag','set','ordered_set','private','public',{'keypos',3},{'h
 0 info(Made1,'keypos') -> 3
 0 info(Made1,'heir') -> P
 0 info(Made1,'named_table') -> 'false'
+0 info(Made1) -> [{'owner',P},{'heir',P},{'name','t'},{'size',2},{'named_table','false'},{'type','ordered_set'},{'keypos',3},{'protection','public'}]
 
 % info about a bag
 0 new('t',['bag','public','named_table',{'heir',call 'erlang':'self'(),'d'}]) -> 't'
@@ -343,6 +402,7 @@ Made1 = 0 new('t',['bag','set','ordered_set','private','public',{'keypos',3},{'h
 0 info('t','keypos') -> 1
 0 info('t','heir') -> P
 0 info('t','named_table') -> 'true'
+0 info('t') -> [{'owner',P},{'heir',P},{'name','t'},{'size',3},{'named_table','true'},{'type','bag'},{'keypos',1},{'protection','public'}]
 
 % the size while objects go
 0 new('t',['named_table','bag']) -> 't'

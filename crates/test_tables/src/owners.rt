@@ -26,6 +26,9 @@ C3 = 0 pid(3) -> P.3
 C3 = 0 pid(3) -> P.3
 3 update_counter('t',1,'x') -> 5 of P
 3 update_counter('t',1,{2,5}) -> 5 of P
+3 update_counter('t',1,[]) -> 5 of P
+3 update_counter('t',3,1,{3,0}) -> 5 of P
+3 update_element('t',3,[]) -> 5 of P
 3 tab2list('t') -> [{1,1},{2,2}]
 
 % member of a protected table
@@ -51,6 +54,8 @@ C2 = 0 pid(2) -> P.2
 2 setopts('t','x') -> 6 of P
 2 info('t','x') -> 18 of P
 2 update_counter('t',1,'x') -> 4 of P
+2 update_counter('t',1,[],'x') -> 4 of P
+2 update_element('t',1,[]) -> 4 of P
 2 lookup_element('t',1,'x') -> 3 of P
 
 % info about a private table of another
@@ -60,7 +65,8 @@ C3 = 0 pid(3) -> P.3
 3 info('t','size') -> 1
 3 info('t','owner') -> P
 3 info('t','protection') -> 'private'
-3 info('t','x') -> 18 of P";
+3 info('t','x') -> 18 of P
+3 info('t') -> [{'owner',P},{'heir','none'},{'name','t'},{'size',1},{'named_table','true'},{'type','set'},{'keypos',1},{'protection','private'}]";
 
 #[test]
 fn others_are_refused(rt: HostRuntime) -> Result<(), Fail> {

@@ -58,8 +58,14 @@ const UPDATES_ARE_JUDGED: &str = "\
 0 update_counter('t',2,{'x',1}) -> 14 of P
 0 update_counter('t',2,{1,'x'}) -> 14 of P
 0 update_counter('t',2,{2,1,1}) -> 14 of P
-0 update_counter('t',2,[]) -> 14 of P
-0 update_counter('t',2,[{2,1}]) -> 14 of P
+0 update_counter('t',2,{2,1,1,'x'}) -> 14 of P
+0 update_counter('t',2,{2,1,'x',1}) -> 14 of P
+0 update_counter('t',2,{2,1,1,1,1}) -> 14 of P
+0 update_counter('t',2,[1]) -> 14 of P
+0 update_counter('t',2,[{2,1},1]) -> 14 of P
+0 update_counter('t',2,[{2,1}|{2,1}]) -> 14 of P
+0 update_counter('t',2,[{1,1},'x']) -> 14 of P
+0 update_counter('t',2,[{2,1},{1,1}]) -> 12 of P
 0 update_counter('t',2,{0,'x'}) -> 14 of P
 0 update_counter('t',2,{2,{}}) -> 14 of P
 0 update_counter('t',2,call 'erlang':'self'()) -> 14 of P
@@ -79,6 +85,8 @@ const UPDATES_ARE_JUDGED: &str = "\
 0 update_counter('t',2,{0,'x'}) -> 15 of P
 0 update_counter('t',2,{2,{}}) -> 15 of P
 0 update_counter('t',2,call 'erlang':'self'()) -> 15 of P
+0 update_counter('t',2,1,{'d',0}) -> 15 of P
+0 update_counter('t','none','x','x') -> 15 of P
 0 lookup('t',2) -> [{2,-3}]
 
 % update_counter to both ends of 64 bits, in an ordered set whose keys come second
@@ -102,10 +110,45 @@ const UPDATES_ARE_JUDGED: &str = "\
 0 update_element('t',2,{1}) -> 12 of P
 0 update_element('t',2,{'x',1}) -> 12 of P
 0 update_element('t',2,{2,1,1}) -> 12 of P
-0 update_element('t',2,[]) -> 12 of P
-0 update_element('t',2,[{2,1}]) -> 12 of P
+0 update_element('t',2,[{2,1},'x']) -> 12 of P
+0 update_element('t',2,[{2,1}|{2,1}]) -> 12 of P
+0 update_element('t',2,[{2,1},{1,1}]) -> 12 of P
+0 update_element('t',2,[{2,1},{0,1}]) -> 12 of P
+0 update_element('t',2,[{2,1},{3,1}]) -> 12 of P
 0 update_element('t',2,{{},1}) -> 12 of P
 0 lookup('t',2) -> [{2,-3}]
+
+% update_element where the key is missing looks at what it is given
+0 new('t',['named_table']) -> 't'
+0 insert('t',{1,'x'}) -> 'true'
+0 update_element('t',2,'a') -> 12 of P
+0 update_element('t',2,{1,1}) -> 12 of P
+0 update_element('t',2,[{2,1},{0,1}]) -> 12 of P
+0 update_element('t',2,[{2,1}|{2,1}]) -> 12 of P
+0 update_element('t',2,{9,1}) -> 'false'
+0 update_element('t',2,[]) -> 'false'
+0 tab2list('t') -> [{1,'x'}]
+
+% update_counter with a default that may not be put in
+0 new('t',['named_table',{'keypos',2}]) -> 't'
+0 insert('t',{5,'k'}) -> 'true'
+0 update_counter('t','none',{1,1},{}) -> 11 of P
+0 update_counter('t','none',{1,1},{'d'}) -> 11 of P
+0 update_counter('t','none',[],{'d'}) -> 11 of P
+0 update_counter('t','none',1,{0,'d'}) -> 12 of P
+0 update_counter('t','none',{1,1},{'x','d'}) -> 14 of P
+0 update_counter('t','none',[{1,1},{3,1}],{0,'d'}) -> 12 of P
+0 update_counter('t','none',{1,9223372036854775807},{1,'d'}) -> 19 of P
+0 update_counter('t','none',{2,1},{1,2}) -> 12 of P
+0 update_counter('t','none',{2,1},'x') -> 12 of P
+0 update_counter('t','none','x','x') -> 14 of P
+0 update_counter('t','none',{1,1},'x') -> 10 of P
+0 update_counter('t','none',{1,1},[{1,'d'}]) -> 10 of P
+0 update_counter('t','k',{1,1},'x') -> 10 of P
+0 update_counter('t','k',[],[]) -> 10 of P
+0 update_counter('t','k',{1,1},{}) -> 6
+0 update_counter('t','k',[],{'d'}) -> []
+0 tab2list('t') -> [{6,'k'}]
 
 % update_element in a bag whose keys come second
 0 new('t',['named_table','bag',{'keypos',2}]) -> 't'
@@ -262,6 +305,9 @@ Made7 = 0 ref() -> #P.7
 % info of a table that is not found by its name
 Made1 = 0 new('t',[]) -> #P.1
 0 info('t','name') -> 'undefined'
+0 info('t') -> 'undefined'
+0 info(1) -> 1
+0 info([]) -> 1
 
 % setopts
 0 setopts('t',[]) -> 2

@@ -44,9 +44,18 @@ delete_all_objects {} -> all
 take {2} -> [2]
 take {9} -> [9]
 update_counter {1,{1,5}} -> [1]
+update_counter {1,[{1,5},{1,6}]} -> [1]
+update_counter {1,[]} -> [1]
+update_counter {1,{1,5},{0,'d'}} -> [1]
+update_counter {3,{1,5},{0,'d'}} -> [3]
+update_counter {3,[],{0,'d'}} -> [3]
 update_element {2,{1,'new'}} -> [2]
+update_element {2,[{1,'new'},{1,'old'}]} -> [2]
 
 % nothing is written
+update_element {3,{1,'new'}} -> none
+update_element {3,[]} -> none
+info {} -> none
 lookup {1} -> none
 member {1} -> none
 lookup_element {1,1} -> none

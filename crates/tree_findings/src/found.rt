@@ -123,7 +123,7 @@ impl Findings {
     ///
     /// # Errors
     ///
-    /// `AllocError` if there is no memory; then the findings stay as they were.
+    /// `AllocError` if there is no memory; then the findings stay as they were, and the others are dropped.
     pub fn merge(&mut self, other: Findings) -> Result<(), AllocError>
         ensures ok { OnOk result (self.new ≡ merged_findings self.old other) }
         ensures among { OnOk result (AddsSchedules self.old other self.new) }

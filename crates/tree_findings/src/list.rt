@@ -141,7 +141,7 @@ impl FindingList {
     ///
     /// # Errors
     ///
-    /// `AllocError` if there is no memory; then the findings stay as they were.
+    /// `AllocError` if there is no memory; then the findings stay as they were, and the finding is dropped.
     pub fn put(&mut self, finding: Finding) -> Result<(), AllocError>
         ensures ok { OnOk result (self.new ≡ with_finding (finding_in finding) self.old) }
         ensures err { OnErr result (self.new ≡ self.old) }
@@ -178,7 +178,7 @@ impl FindingList {
     ///
     /// # Errors
     ///
-    /// `AllocError` if there is no memory; then the findings stay as they were.
+    /// `AllocError` if there is no memory; then the findings stay as they were, and the other list is dropped.
     pub fn merge(&mut self, other: FindingList) -> Result<(), AllocError>
         ensures ok { OnOk result (self.new ≡ merged self.old other) }
         ensures err { OnErr result (self.new ≡ self.old) }

@@ -23,7 +23,8 @@ pub fn is_one_of(steps: &[Step], step: &Step) -> bool
     false
 }
 
-/// Those of the enabled steps that do not sleep, in their order. `AllocError` if there is no memory for them.
+/// Those of the enabled steps that do not sleep, in their order. `AllocError` if there is no memory for them; then all of
+/// them are dropped.
 pub fn awake(alloc: Global, enabled: Vec<Step>, slept: &[Step]) -> Result<Vec<Step>, AllocError>
     ensures { IfOk result (λ awake. awake.items ≡ filter (λ s. not (is_one_of slept.now s)) enabled.items) }
 {

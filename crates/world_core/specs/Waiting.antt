@@ -9,7 +9,7 @@ use Rattle.world_model.specs.Requests.{Program, Request, Calls, Receives, Ends, 
 use Rattle.world_model.specs.Steps.{asked, must_wait}
 use Rattle.world_model.specs.World.{alive, contents}
 
--- a process that asks this waits: for a message that its receive selects, or, where it asks whether a process lives, until its own signals to that process have arrived
+-- a process that asks this waits: for a message that its receive selects, or, where it asks whether a process lives or what is told of another, until its own signals to that process have arrived
 abbrev pub WaitsAt : Contents → Pid → Request → Type 0
 WaitsAt v p (Calls kind arguments) = must_wait v p (call_of kind arguments) ≡ true
 WaitsAt v p (Receives waits selects) = (waits ≡ true) × (selected_of selects (mailbox_in v p) ≡ None)

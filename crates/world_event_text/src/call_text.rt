@@ -11,7 +11,7 @@ use term_core::{
 use world_identities::number_of_rule;
 use world_model::rule::Rule;
 
-/// Writes a call as `mod:fun(args)`.
+/// Writes a call as `mod:fun(args)`. Where the sink fails, a beginning of that was written. It takes no memory.
 pub fn write_call<W: Sink>(
     sink: &mut W,
     kind: CallKind,
@@ -54,7 +54,8 @@ fn write_behind_comma<W: Sink>(sink: &mut W, argument: &Term) -> Result<(), Writ
     write_term(argument, sink)
 }
 
-/// Writes the error of a call of a table, with the rule, and with the owner where one is reported.
+/// Writes the error of a call of a table, with the rule, and with the owner where one is reported. Where the sink fails, a
+/// beginning of that was written.
 pub fn write_broken_rule<W: Sink>(
     sink: &mut W,
     rule: Rule,

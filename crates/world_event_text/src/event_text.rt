@@ -129,7 +129,7 @@ fn write_received<W: Sink>(sink: &mut W, message: &Term) -> Result<(), WriteFaul
     write_term(message, sink)
 }
 
-/// Writes the end of a process.
+/// Writes the end of a process. Where the sink fails, a beginning of that was written.
 pub fn write_end<W: Sink>(sink: &mut W, reason: &Term) -> Result<(), WriteFault>
     requires { W.has_failed sink.old ≡ false }
     ensures { Writes (W.contents sink.old) (W.contents sink.new) (W.has_failed sink.new) result (text_of_end (meaning_of reason.now)) }

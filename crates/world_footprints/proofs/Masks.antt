@@ -4,7 +4,7 @@ use Rattle.std.specs.Int.{bit_at}
 use Rattle.std.specs.Prelude.{bit_and, bit_or, max}
 use Rattle.std.proofs.lemmas.List.{map-append, take_more}
 use Rattle.std.proofs.lemmas.Nat.Bits.{bit_at_and, bit_at_or, bit_at-lt, bit_at-zero}
-use Rattle.world_model.specs.Cells.{Cell, Row, meet}
+use Rattle.world_model.specs.Cells.{Cell, Holder, Row, meet}
 use Rattle.world_model.specs.Independence.{one_meets, some_meet}
 use Rattle.world_model.specs.Names.{IsAmong}
 use Rattle.world_model.proofs.Meeting.{whole, whole_same}
@@ -16,6 +16,7 @@ use Rattle.world_footprints.specs.inside.Masks.{Covers, place_in_mask}
 
 whole_place : (c : Cell) → place_in_mask (whole c) ≡ place_in_mask c
 whole_place (Row t k) = refl
+whole_place (Holder n) = refl
 whole_place c = refl
 
 one_place : (a b : Cell) → meet a b ≡ true → place_in_mask a ≡ place_in_mask b

@@ -5,7 +5,7 @@ use Rattle.term_core.specs.Term.{meaning_of}
 use Rattle.world_model.specs.Cells as cells
 use Rattle.world_records.specs.Cells.{channel_cell, name_cell, process_cell, reference_cell}
 use Rattle.world_footprints.specs.declared.view.View.{View}
-use Rattle.world_footprints.specs.declared.view.View.TheVariants.{OfProcess, OfChannel, OfName, OfReference, Row, Rows}
+use Rattle.world_footprints.specs.declared.view.View.TheVariants.{OfProcess, OfChannel, OfName, OfReference, Row, Rows, Holders}
 
 -- the cell that it is
 abbrev pub view_in : View → cells.Cell
@@ -15,6 +15,7 @@ view_in (OfName part name) = name_cell part name.now
 view_in (OfReference part id) = reference_cell part (ref_of id.now)
 view_in (Row id key) = cells.Row (ref_of id.now) (meaning_of key.now)
 view_in (Rows id) = cells.Rows (ref_of id.now)
+view_in Holders = cells.Holders
 
 abbrev pub behind : Option View → List cells.Cell
 behind None = []

@@ -104,7 +104,7 @@ fn place_of(kind: u64, class: u64) -> u64
 }
 
 /// The place of a cell in a mask, from 0 to 63. A row and all rows of its table have one place, and so
-/// have the watch and the guard of a reference. It takes no memory.
+/// have the holder of a name and all holders, and the watch and the guard of a reference. It takes no memory.
 pub(crate) fn place_in_mask(cell: View<'_>) -> u64
     ensures value { result ≡ place_in_mask (view_in cell.entry) }
     ensures small { result < 64 }
@@ -118,6 +118,7 @@ pub(crate) fn place_in_mask(cell: View<'_>) -> u64
         View::OfReference(part, id) => place_of(kind_of_reference(part), class_of_ref(id)),
         View::Row(id, _) => place_of(15, class_of_ref(id)),
         View::Rows(id) => place_of(15, class_of_ref(id)),
+        View::Holders => place_of_name(NamePart::Holder),
     }
 }
 

@@ -11,7 +11,7 @@ ghost use Rattle.world_model.specs.Cells as cells;
 ghost use Rattle.world_model.specs.Cells.{meet};
 ghost use Rattle.world_model.specs.Changes.{cell_of};
 ghost use Rattle.world_model.specs.Independence.{one_meets, some_meet};
-ghost use Rattle.world_model.specs.Names.{same_ref, ref_of};
+ghost use Rattle.world_model.specs.Names.{Name, same_ref, ref_of};
 ghost use Rattle.world_records.specs.Cells.{cells_in, channel_cell, name_cell, process_cell, reference_cell};
 ghost use Rattle.world_records.specs.Changes.{all_changes_in, changes_in};
 
@@ -103,6 +103,27 @@ fn meets_channel(part: ChannelPart, from: &Pid, to: &Pid, other: View<'_>) -> bo
     }
 }
 
+// Whether a part of names says who holds one.
+fn is_holder(part: NamePart) -> bool
+    ensures { (name : Name) → result ≡ meet (name_cell part name) cells.Holders }
+{
+    match part {
+        NamePart::Holder => true,
+        NamePart::TableName => false,
+    }
+}
+
+// Whether a cell meets all holders of names.
+fn meets_holders(other: View<'_>) -> bool
+    ensures { result ≡ meet cells.Holders (view_in other.entry) }
+{
+    match other {
+        View::OfName(part, _) => is_holder(part),
+        View::Holders => true,
+        _ => false,
+    }
+}
+
 // Whether a cell meets one of a name.
 fn meets_name(part: NamePart, name: &Atom, other: View<'_>) -> bool
     ensures { result ≡ meet (name_cell part name.now) (view_in other.entry) }
@@ -111,6 +132,7 @@ fn meets_name(part: NamePart, name: &Atom, other: View<'_>) -> bool
         View::OfName(other_part, other_name) => {
             place_of_name(part) == place_of_name(other_part) && name == other_name
         }
+        View::Holders => is_holder(part),
         _ => false,
     }
 }
@@ -149,8 +171,8 @@ fn meets_rows(id: &RefId, other: View<'_>) -> bool
     }
 }
 
-/// Whether two cells meet: they are the same, or one is a part of the other, as a row is of all rows of its table. It
-/// takes no memory.
+/// Whether two cells meet: they are the same, or one is a part of the other, as a row is of all rows of its table and the
+/// holder of a name of all holders. It takes no memory.
 pub(crate) fn meet(one: View<'_>, other: View<'_>) -> bool
     ensures { result ≡ meet (view_in one.entry) (view_in other.entry) }
 {
@@ -161,6 +183,7 @@ pub(crate) fn meet(one: View<'_>, other: View<'_>) -> bool
         View::OfReference(part, id) => meets_reference(part, id, other),
         View::Row(id, key) => meets_row(id, key, other),
         View::Rows(id) => meets_rows(id, other),
+        View::Holders => meets_holders(other),
     }
 }
 

@@ -32,6 +32,8 @@ pub enum View<'a> {
     Row(&'a RefId, &'a Term),
     /// All rows of the table of this reference.
     Rows(&'a RefId),
+    /// Who holds any name.
+    Holders,
 }
 
 /// One cell, or two.
@@ -48,6 +50,7 @@ pub fn view_of(cell: &Cell) -> View<'_>
         Cell::OfReference(part, id) => View::OfReference(*part, id),
         Cell::Row(id, key) => View::Row(id, key),
         Cell::Rows(id) => View::Rows(id),
+        Cell::Holders => View::Holders,
     }
 }
 

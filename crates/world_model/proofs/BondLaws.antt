@@ -4,18 +4,18 @@ use Rattle.std.specs.Prelude.{ℕ, is_some}
 use Rattle.term_core.specs.Meaning.{Meaning}
 use Rattle.term_core.specs.declared.step.Step.{Step}
 use Rattle.term_core.specs.declared.step.Step.TheVariants.{Deliver, Turn}
-use Rattle.world_model.specs.Bonds.{set_if, paired_by_way, linked_by_call, way_now, linked_in, LinkedIsTold, watched_by_call, watched_in, WatchedIsTold, cleared_if, unwatched_if, guarded_by_call, guarded_in, GuardedIsTold, vacated, held_by_call, name_of_ended, held_in, HolderIsTold}
-use Rattle.world_model.specs.Calls.{Link, Call, MakeAlias, Unalias, StartTimer, CancelTimer, ReadTimer, Spawn, Alone, Linked, Watched, Unlink, OnTable, call_of, Monitor, Demonitor, Register, Unregister}
+use Rattle.world_model.specs.Bonds.{set_if, paired_by_way, linked_by_call, way_now, linked_in, LinkedIsTold, watched_by_call, watched_in, WatchedIsTold, cleared_if, unaliased_if, unwatched_if, named_alias, named_target, guarded_by_call, guarded_in, GuardedIsTold, vacated, held_by_call, name_of_ended, held_in, HolderIsTold}
+use Rattle.world_model.specs.Calls.{Link, Call, MakeAlias, Unalias, StartTimer, CancelTimer, ReadTimer, Spawn, Alone, Linked, Watched, Unlink, OnTable, call_of, Monitor, MonitorName, Demonitor, Register, Unregister}
 use Rattle.world_model.specs.Cells.{Cell, Links, Table, Contents, Watch, Watchers, Guard, Alive, Holder, NameOf, Owned}
 use Rattle.world_model.specs.Changes.{is_of_watch, after, changed, TurnTaken, SignalDelivered, WatchCleared, WatcherRemoved, GuardSet, GuardCleared, GuardUnwatched, CellTouched, Change, AliveCleared, MachineHalted, OwnedCleared}
 use Rattle.world_model.specs.Ends.{ends, passed, table_passes, living_heir, tables_pass, partners_told, watchers_told, name_left}
 use Rattle.world_model.specs.Events.{History, Fate, Signal, Delivered, Message, Exit, LinkExit, Down, Guarded, Elapsed, Arrives, IsIgnored, IsDropped, Kills, Deed, Served, Refused, EndedItself, Ended, Received, TimedOut, RanAway}
 use Rattle.world_model.specs.Guards as guards
-use Rattle.world_model.specs.Guards.{aliased, is_alias_of, is_of_reply, ends_by_reply, timer_in}
+use Rattle.world_model.specs.Guards.{aliased, is_alias_of, is_of_reply, ends_by_reply, timer_in, watch_name}
 use Rattle.world_model.specs.Lines.{line}
 use Rattle.world_model.specs.Mailboxes.{mailbox_in, selected_of}
 use Rattle.world_model.specs.Names.{Pid, same_pid, Ref, same_ref, Name, same_name}
-use Rattle.world_model.specs.ProcessLines.{LinkWay, link_changes, Stands, Pairs, PairsGone, Fails, watch_ends, flushed, gone_told, next_child, next_ref, watch_begins, unregister_line, alias_begins, alias_beside, timer_message}
+use Rattle.world_model.specs.ProcessLines.{LinkWay, link_changes, Stands, Pairs, PairsGone, Fails, watch_ends, flushed, gone_told, next_child, next_ref, watch_begins, unregister_line, alias_begins, alias_beside, alias_goes, named_guard, named_line, timer_message}
 use Rattle.world_model.specs.Signals.{goes_with, put_if, reply_ends}
 use Rattle.world_model.specs.Steps.{changes_of_fate, changes_by, runaway}
 use Rattle.world_model.specs.Tables as tables
@@ -122,6 +122,10 @@ gone_watched : (b : Bool) (p q : Pid) (u ref : Ref) (w : Contents) → after (go
 gone_watched true p q u ref w = refl
 gone_watched false p q u ref w = refl
 
+named_watched : (v w : Contents) (p : Pid) (name : Name) (u : Ref) (alias : Option AliasEnd) (o : Option Pid) (ref : Ref) → after (named_line v p name u alias o).changes w (Watch ref) ≡ (if same_ref u ref then Some (named_target p o) else w (Watch ref))
+named_watched v w p name u alias None ref = gone_watched false p p u ref (changed (GuardSet u (named_guard p name alias)) (after (watch_begins u p) w))
+named_watched v w p name u alias (Some q) ref = gone_watched (v (Alive q)) p q u ref (changed (GuardSet u (named_guard p name (alias_beside (same_pid p q) alias))) (after (watch_begins u q) w))
+
 call_watched : (h : History) (w : Contents) (p : Pid) (call : Call) (ref : Ref) → ((u : Ref) → w (Watch u) ≡ contents h (Watch u)) → after (line (contents h) p call).changes w (Watch ref) ≡ watched_by_call h p call ref (w (Watch ref))
 call_watched h w p (Spawn Alone None) ref same = refl
 call_watched h w p (Spawn Linked None) ref same = refl
@@ -138,6 +142,9 @@ call_watched h w p (Monitor true (Some q) (Some alias)) ref same =
     let mid = after (watch_begins u q) w in
     let begun = alias_beside (same_pid p q) alias in
     after_both (alias_begins p u begun) (gone_told (contents h (Alive q)) p q u) mid (Watch ref) ∙ gone_watched (contents h (Alive q)) p q u ref (after (alias_begins p u begun) mid) ∙ alias_leaves p u begun mid ref
+call_watched h w p (MonitorName false name alias) ref same = refl
+call_watched h w p (MonitorName true name None) ref same = refl
+call_watched h w p (MonitorName true name (Some alias)) ref same = named_watched (contents h) w p name (next_ref (contents h) p) alias (contents h (Holder name)) ref
 call_watched h w p (Demonitor None flushes) ref same = refl
 call_watched h w p (Demonitor (Some u) None) ref same = refl
 call_watched h w p (Demonitor (Some u) (Some flushes)) ref same =
@@ -220,6 +227,15 @@ cleared_by : (b : Bool) (u ref : Ref) (w : Contents) → after (if b then GuardC
 cleared_by true u ref w = refl
 cleared_by false u ref w = refl
 
+unaliased_by : (b : Bool) (u ref : Ref) (o : Option Name) (w : Contents) → after (if b then alias_goes u o else []) w (Guard ref) ≡ unaliased_if (b && same_ref u ref) o (w (Guard ref))
+unaliased_by true u ref None w = refl
+unaliased_by true u ref (Some name) w = refl
+unaliased_by false u ref o w = refl
+
+named_guarded : (v w : Contents) (p : Pid) (name : Name) (u : Ref) (alias : Option AliasEnd) (o : Option Pid) (ref : Ref) → after (named_line v p name u alias o).changes w (Guard ref) ≡ set_if (same_ref u ref) (named_guard p name (named_alias p o alias)) (w (Guard ref))
+named_guarded v w p name u alias None ref = gone_guarded false p p u ref (changed (GuardSet u (named_guard p name alias)) (after (watch_begins u p) w))
+named_guarded v w p name u alias (Some q) ref = gone_guarded (v (Alive q)) p q u ref (changed (GuardSet u (named_guard p name (alias_beside (same_pid p q) alias))) (after (watch_begins u q) w))
+
 call_guarded : (h : History) (w : Contents) (p : Pid) (call : Call) (ref : Ref) → after (line (contents h) p call).changes w (Guard ref) ≡ guarded_by_call h p call ref (w (Guard ref))
 call_guarded h w p (Monitor true None alias) ref = refl
 call_guarded h w p (Monitor false None alias) ref = refl
@@ -230,6 +246,9 @@ call_guarded h w p (Monitor true (Some q) (Some alias)) ref =
     let mid = after (watch_begins u q) w in
     let begun = alias_beside (same_pid p q) alias in
     after_both (alias_begins p u begun) (gone_told (contents h (Alive q)) p q u) mid (Guard ref) ∙ gone_guarded (contents h (Alive q)) p q u ref (after (alias_begins p u begun) mid) ∙ begun_guarded h p q alias mid ref
+call_guarded h w p (MonitorName false name alias) ref = refl
+call_guarded h w p (MonitorName true name None) ref = refl
+call_guarded h w p (MonitorName true name (Some alias)) ref = named_guarded (contents h) w p name (next_ref (contents h) p) alias (contents h (Holder name)) ref
 call_guarded h w p (Demonitor None flushes) ref = refl
 call_guarded h w p (Demonitor (Some u) None) ref = refl
 call_guarded h w p (Demonitor (Some u) (Some flushes)) ref =
@@ -239,7 +258,7 @@ call_guarded h w p (Demonitor (Some u) (Some flushes)) ref =
 call_guarded h w p (MakeAlias None) ref = refl
 call_guarded h w p (MakeAlias (Some end)) ref = refl
 call_guarded h w p (Unalias None) ref = refl
-call_guarded h w p (Unalias (Some u)) ref = cleared_by (is_alias_of p (contents h (Guard u))) u ref w
+call_guarded h w p (Unalias (Some u)) ref = unaliased_by (is_alias_of p (contents h (Guard u))) u ref (watch_name (contents h (Guard u))) w
 call_guarded h w p (StartTimer is_named None None m) ref = refl
 call_guarded h w p (StartTimer is_named (Some time) None m) ref = refl
 call_guarded h w p (StartTimer is_named None (Some q) m) ref = refl

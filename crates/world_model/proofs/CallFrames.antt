@@ -1,22 +1,26 @@
 -- The law of frames of each call: contents that agree on what its line reads give it the same line.
 use Rattle.std.proofs.Common.{◌∙◌, refl, ap, subst, sym}
-use Rattle.std.specs.Prelude.{if◌then◌else◌, ◌≡◌, ◌∷◌, Bool, true, false, Option, None, Some, [], List, codes, ℤ, option_map}
+use Rattle.std.specs.FinMap.{keys}
+use Rattle.std.specs.Prelude.{if◌then◌else◌, ◌≡◌, ◌∷◌, Bool, true, false, Option, None, Some, [], List, codes, ℤ, length, map, option_map}
 use Rattle.term_core.specs.Meaning.{Meaning}
-use Rattle.world_model.specs.Calls.{Call, Spawn, Send, ToNobody, ToProcess, ToName, ToReference, SendExit, Link, Unlink, Monitor, Demonitor, Flag, Register, Unregister, WhereIs, IsAlive, MakeRef, MakeAlias, Unalias, StartTimer, CancelTimer, ReadTimer, New, OnTable, Misfit}
-use Rattle.world_model.specs.Cells.{Contents, TableName, Holder, Machine, Trap, Alive, Front, Tail, Watch, Guard}
+use Rattle.world_model.specs.Calls.{Call, Spawn, Send, ToNobody, ToProcess, ToName, ToReference, ToNode, ToAnotherNode, SendExit, Link, Unlink, Monitor, MonitorName, Demonitor, Flag, Register, Unregister, WhereIs, Registered, IsAlive, ProcessInfo, MakeRef, MakeAlias, Unalias, StartTimer, CancelTimer, ReadTimer, New, OnTable, Misfit}
+use Rattle.world_model.specs.Cells.{Contents, TableName, Holder, Holders, Machine, Trap, Alive, Front, Tail, Watch, Guard}
 use Rattle.world_model.specs.Changes.{TrapSet, GuardSet, is_of_watch}
 use Rattle.world_model.specs.Ends.{alive_if}
 use Rattle.world_model.specs.Events.{Message, Exit, Guarded}
 use Rattle.world_model.specs.Frames.{AgreeOn}
-use Rattle.world_model.specs.Guards.{Alias, aliased, is_alias_of, timer_in}
+use Rattle.world_model.specs.Guards.{Alias, aliased, is_alias_of, timer_in, watch_name}
 use Rattle.world_model.specs.Lines.{line}
 use Rattle.world_model.specs.Mailboxes.{left_of, mailbox_in, selected_of, reads_to_pick}
 use Rattle.world_model.specs.Names.{Pid, same_pid, Name, Ref}
 use Rattle.world_model.specs.NewTables.{name_taken, new_reads, new_rule, new_line}
-use Rattle.world_model.specs.ProcessLines.{sent, read_of_target, exited, holder_read, sent_to_holder, unregister_line, register_line, spawn_line, serves, serves_unless, unless_held, link_line, link_way, monitor_line, ref_of_turn, badarg, demonitor_reads, demonitor_line, alias_beside, send_line, unalias_line, timer_line, timer_reads, timer_ends, time_left, told_left}
+use Rattle.world_model.specs.ProcessLines.{sent, read_of_target, exited, holder_read, sent_to_holder, unregister_line, register_line, spawn_line, serves, serves_unless, unless_held, link_line, link_way, monitor_line, ref_of_turn, badarg, demonitor_reads, demonitor_line, alias_beside, send_line, unalias_line, timer_line, timer_reads, timer_ends, time_left, told_left, named_line, named_begins, item_reads, item_told, name_told, info_line, undefined}
 use Rattle.world_model.specs.Signals.{put_if, watch_if, reply_ends}
 use Rattle.world_model.specs.Tables.{TableOption, is_named}
-use Rattle.world_model.specs.Terms.{ok, truth, process_or, reference}
+use Rattle.world_model.specs.Terms.{atom, list_of, number, ok, truth, tuple, process_or, reference}
+use Rattle.world_model.specs.declared.alias.AliasEnd.{AliasEnd}
+use Rattle.world_model.specs.declared.process.ProcessItem.{ProcessItem}
+use Rattle.world_model.specs.declared.process.ProcessItem.TheVariants.{RegisteredName, QueueLength}
 use Rattle.world_model.specs.declared.rule.Rule.{Rule}
 use Rattle.world_model.proofs.TableFrames.{on_table_framed, agree_parts}
 
@@ -83,6 +87,26 @@ left_framed : (v w : Contents) (timer : Option (Pid × ℤ)) → AgreeOn v w (al
 left_framed v w None agree = refl
 left_framed v w (Some timer) agree = ap (λ lives. if lives then Some timer.1 else None) agree.0.0
 
+-- ---- watches by name, and what is told of processes
+
+-- whichever process has the name, it is read
+named_framed : (v w : Contents) (p : Pid) (name : Name) (alias : Option AliasEnd) (o : Option Pid) → v (Holder name) ≡ o → v (Machine p) ≡ w (Machine p) → AgreeOn v w (named_line v p name (ref_of_turn p (v (Machine p))) alias o).reads
+    → named_line v p name (ref_of_turn p (v (Machine p))) alias o ≡ named_line w p name (ref_of_turn p (w (Machine p))) alias (w (Holder name))
+named_framed v w p name alias None is machine agree =
+    (λ i. named_line w p name (ref_of_turn p (machine i)) alias None) ∙ ap (named_line w p name (ref_of_turn p (w (Machine p))) alias) (sym is ∙ agree.0.0)
+named_framed v w p name alias (Some q) is machine agree =
+    (λ i. serves (Holder name ∷ Alive q ∷ []) (reference (ref_of_turn p (machine i))) (named_begins p name (ref_of_turn p (machine i)) q (agree.1.0.0 i) (alias_beside (same_pid p q) alias)))
+    ∙ ap (named_line w p name (ref_of_turn p (w (Machine p))) alias) (sym is ∙ agree.0.0)
+
+item_framed : (v w : Contents) (q : Pid) (item : ProcessItem) → AgreeOn v w (item_reads q item) → item_told v q item ≡ item_told w q item
+item_framed v w q RegisteredName agree = ap name_told agree.0.0
+item_framed v w q QueueLength agree = λ i. tuple (atom (codes "message_queue_len") ∷ number (length (left_of (agree.0.0 i) (agree.1.0.0 i))) ∷ [])
+
+info_framed : (v w : Contents) (p q : Pid) (item : ProcessItem) (b : Bool) → AgreeOn v w (info_line b v p q item).reads → info_line b v p q item ≡ info_line b w p q item
+info_framed v w p q item true agree = ap (λ m. serves (item_reads p item) m []) (item_framed v w p item agree)
+info_framed v w p q item false agree =
+    λ i. serves (Alive q ∷ Front p q ∷ Tail p q ∷ item_reads q item) (if agree.0.0 i then item_framed v w q item agree.1.1.1 i else undefined) []
+
 -- ---- the lines
 
 -- whichever process holds the name, it is read
@@ -102,6 +126,10 @@ call_framed v w p (Send (ToReference ref) m) machine agree = send_framed v w p r
 call_framed v w p (Send (ToName name) m) machine agree =
     let holder = agree.0.0 in
     λ i. serves_unless (unless_held (holder i)) (Holder name ∷ holder_read p (holder i)) m ((holder_framed v w p (v (Holder name)) m agree.1 ∙ ap (λ o. sent_to_holder w p o m) holder) i)
+call_framed v w p (Send (ToNode name) m) machine agree =
+    let holder = agree.0.0 in
+    λ i. serves (Holder name ∷ holder_read p (holder i)) m ((holder_framed v w p (v (Holder name)) m agree.1 ∙ ap (λ o. sent_to_holder w p o m) holder) i)
+call_framed v w p (Send ToAnotherNode m) machine agree = refl
 call_framed v w p (SendExit None reason) machine agree = refl
 call_framed v w p (SendExit (Some q) reason) machine agree = ap (serves (read_of_target (same_pid p q) p q) ok) (exited_framed v w p q reason (same_pid p q) agree)
 call_framed v w p (Link None) machine agree = refl
@@ -112,6 +140,9 @@ call_framed v w p (Monitor is_process None alias) machine agree = refl
 call_framed v w p (Monitor false (Some q) alias) machine agree = refl
 call_framed v w p (Monitor true (Some q) None) machine agree = refl
 call_framed v w p (Monitor true (Some q) (Some alias)) machine agree = λ i. monitor_line p q (ref_of_turn p (machine i)) (agree.0.0 i) (alias_beside (same_pid p q) alias)
+call_framed v w p (MonitorName false name alias) machine agree = refl
+call_framed v w p (MonitorName true name None) machine agree = refl
+call_framed v w p (MonitorName true name (Some alias)) machine agree = named_framed v w p name alias (v (Holder name)) refl machine agree
 call_framed v w p (Demonitor None flushes) machine agree = refl
 call_framed v w p (Demonitor (Some ref) None) machine agree = λ i. badarg (demonitor_reads ref (agree.0.0 i))
 call_framed v w p (Demonitor (Some ref) (Some false)) machine agree = λ i. demonitor_line p ref false (agree.0.0 i) None
@@ -128,13 +159,17 @@ call_framed v w p (Unregister None) machine agree = refl
 call_framed v w p (Unregister (Some name)) machine agree = unregister_framed v w name agree
 call_framed v w p (WhereIs None) machine agree = refl
 call_framed v w p (WhereIs (Some name)) machine agree = λ i. serves (Holder name ∷ []) (process_or (codes "undefined") (agree.0.0 i)) []
+call_framed v w p Registered machine agree = λ i. serves (Holders ∷ []) (list_of (map atom (keys (agree.0.0 i)))) []
 call_framed v w p (IsAlive None) machine agree = refl
 call_framed v w p (IsAlive (Some q)) machine agree = λ i. serves (Alive q ∷ Front p q ∷ Tail p q ∷ []) (truth (agree.0.0 i)) []
+call_framed v w p (ProcessInfo None item) machine agree = refl
+call_framed v w p (ProcessInfo (Some q) None) machine agree = refl
+call_framed v w p (ProcessInfo (Some q) (Some item)) machine agree = info_framed v w p q item (same_pid p q) agree
 call_framed v w p MakeRef machine agree = λ i. serves [] (reference (ref_of_turn p (machine i))) []
 call_framed v w p (MakeAlias None) machine agree = refl
 call_framed v w p (MakeAlias (Some end)) machine agree = λ i. serves [] (reference (ref_of_turn p (machine i))) (GuardSet (ref_of_turn p (machine i)) (Alias p end) ∷ [])
 call_framed v w p (Unalias None) machine agree = refl
-call_framed v w p (Unalias (Some ref)) machine agree = λ i. unalias_line ref (is_alias_of p (agree.0.0 i))
+call_framed v w p (Unalias (Some ref)) machine agree = λ i. unalias_line ref (is_alias_of p (agree.0.0 i)) (watch_name (agree.0.0 i))
 call_framed v w p (StartTimer is_named time None m) machine agree = refl
 call_framed v w p (StartTimer is_named None (Some q) m) machine agree = refl
 call_framed v w p (StartTimer is_named (Some time) (Some q) m) machine agree = λ i. timer_line p (machine i) is_named time q (agree.0.0 i) m

@@ -1,18 +1,19 @@
 -- Changes leave the cells that they do not touch, and so independent steps commute.
-use Rattle.std.proofs.Common.{◌≡◌, Bool, true, false, ◌||◌, ◌&&◌, ℕ, List, [], ◌∷◌, ◌++◌, Option, Some, refl, sym, ap, ◌∙◌, suc, zero, append_assoc, true≢false, if◌then◌else◌, map, ◌⊎◌, inl, inr, drop}
+use Rattle.std.proofs.Common.{◌≡◌, Bool, true, false, ◌||◌, ◌&&◌, ℕ, List, [], ◌∷◌, ◌++◌, Option, Some, None, refl, sym, ap, ◌∙◌, suc, zero, append_assoc, true≢false, if◌then◌else◌, map, ◌⊎◌, inl, inr, drop}
 use Rattle.term_core.specs.Meaning.{Meaning}
 use Rattle.term_core.specs.declared.step.Step.{Step}
-use Rattle.world_model.specs.Names.{Pid, Ref, same_ref, same_term}
+use Rattle.world_model.specs.Names.{Name, Pid, Ref, same_name, same_ref, same_term}
 use Rattle.world_model.specs.Requests.{Program}
 use Rattle.world_model.specs.Events.{Signal}
 use Rattle.world_model.specs.Rows.{Key, same_key, RowChange, rows_rewritten}
-use Rattle.world_model.specs.Cells.{Cell, Taken, Mailed, Front, Tail, Row, Rows, meet, Contents}
-use Rattle.world_model.specs.Changes.{Change, MessageAdded, without_first, SignalPut, RowWritten, CellTouched, cell_of, renewed, changed, after}
+use Rattle.world_model.specs.Cells.{Cell, Taken, Mailed, Front, Tail, Holder, Holders, Row, Rows, meet, Contents}
+use Rattle.world_model.specs.Changes.{Change, MessageAdded, without_first, SignalPut, HolderSet, HolderCleared, RowWritten, CellTouched, cell_of, renewed, changed, after}
 use Rattle.world_model.specs.Mailboxes.{left_of, mailbox_in, selected_of}
 use Rattle.world_model.specs.Signals.{first_of}
 use Rattle.world_model.specs.Steps.{reads}
 use Rattle.world_model.specs.Frames.{SeesFirst, AgreeOn}
-use Rattle.world_model.proofs.Meeting.{is_row, left_meets, right_meets, both, refs_same}
+use Rattle.world_model.proofs.Meeting.{is_part, left_meets, pid_itself, pids_same, right_meets, both, refs_same}
+use Rattle.world_model.proofs.HolderLaws.{held_change, cell_held, holders_with, renewed_held, holders_swapped}
 use Rattle.world_model.proofs.RowLaws.{rows_swapped, keys_same}
 use Rattle.world_model.proofs.Outcomes.{Outcome, outcome, touches, meets, AreIndependent, Commute}
 
@@ -152,9 +153,12 @@ follows_one k v w c same = follows (k ∷ []) v w c same
 passes : (k l : Change) (v : Contents) (c : Cell) → ((w : Contents) → changed k w c ≡ w c) → changed l (changed k v) c ≡ changed k (changed l v) c
 passes k l v c idle = follows_one l (changed k v) v c (idle v) ∙ sym (idle (changed l v))
 
--- a change is of a whole cell, or of a row, or changes nothing
+-- a change is of a whole cell, or of a row, or of the holder of a name, or changes nothing
 IsWrite : Change → Type 0
 IsWrite k = (t : Ref) × (key : Key) × (x : RowChange) × (k ≡ RowWritten t key x)
+
+IsHeld : Change → Type 0
+IsHeld k = (n : Name) × (o : Option Pid) × (k ≡ held_change n o)
 
 IsIdle : Change → Type 0
 IsIdle k = (v : Contents) (c : Cell) → changed k v c ≡ v c
@@ -163,10 +167,15 @@ pub either_way : {A : Type 0} (b : Bool) (x : A) → (if b then x else x) ≡ x
 either_way true x = refl
 either_way false x = refl
 
-nature : (k : Change) → (is_row (cell_of k) ≡ false) ⊎ (IsWrite k ⊎ IsIdle k)
-unfolding IsWrite IsIdle
+Nature : Change → Type 0
+Nature k = (is_part (cell_of k) ≡ false) ⊎ (IsWrite k ⊎ (IsHeld k ⊎ IsIdle k))
+
+nature : (k : Change) → Nature k
+unfolding Nature IsWrite IsHeld IsIdle
 nature (RowWritten t key x) = inr (inl (t, key, x, refl))
-nature (CellTouched d) = inr (inr (λ v c. either_way (meet d c) (v c)))
+nature (HolderSet n p) = inr (inr (inl (n, Some p, refl)))
+nature (HolderCleared n) = inr (inr (inl (n, None, refl)))
+nature (CellTouched d) = inr (inr (inr (λ v c. either_way (meet d c) (v c))))
 nature k = inl refl
 
 changed_is : (k : Change) (v : Contents) (c : Cell) → meet (cell_of k) c ≡ true → changed k v c ≡ renewed k c (v c)
@@ -190,19 +199,48 @@ writes_swapped t u a b x y v (Row s k) apart here there =
     absurd (true≢false (sym here ∙ sym (λ i. same_ref t (refs_same u s right.0 i) && same_key a (keys_same b k right.1 i)) ∙ apart))
 writes_swapped t u a b x y v c apart here there = absurd (true≢false (sym here))
 
--- of two changes that meet one cell and not each other, both are writes
-where_both : (k l : Change) (v : Contents) (c : Cell) → meet (cell_of k) (cell_of l) ≡ false → meet (cell_of k) c ≡ true → meet (cell_of l) c ≡ true → (is_row (cell_of k) ≡ false) ⊎ (IsWrite k ⊎ IsIdle k) → (is_row (cell_of l) ≡ false) ⊎ (IsWrite l ⊎ IsIdle l) → changed l (changed k v) c ≡ changed k (changed l v) c
-unfolding IsWrite IsIdle
-where_both k l v c apart here there (inl no_row) n = absurd (true≢false (sym (left_meets (cell_of k) (cell_of l) c no_row here there) ∙ apart))
-where_both k l v c apart here there m (inl no_row) = absurd (true≢false (sym (right_meets (cell_of k) (cell_of l) c no_row here there) ∙ apart))
-where_both k l v c apart here there (inr (inr idle)) n = passes k l v c (λ w. idle w c)
-where_both k l v c apart here there m (inr (inr idle)) = sym (passes l k v c (λ w. idle w c))
+-- two holders
+holds_swapped : (n m : Name) (o q : Option Pid) (v : Contents) (c : Cell) → meet (Holder n) (Holder m) ≡ false → meet (Holder n) c ≡ true → meet (Holder m) c ≡ true → changed (held_change m q) (changed (held_change n o) v) c ≡ changed (held_change n o) (changed (held_change m q) v) c
+holds_swapped n m o q v Holders apart here there =
+    renewed_held m q (changed (held_change n o) v)
+    ∙ ap (holders_with m q) (renewed_held n o v)
+    ∙ holders_swapped n m o q (v Holders) apart
+    ∙ sym (renewed_held n o (changed (held_change m q) v) ∙ ap (holders_with n o) (renewed_held m q v))
+holds_swapped n m o q v (Holder k) apart here there =
+    absurd (true≢false (sym (pid_itself n) ∙ ap (same_name n) (pids_same n k here ∙ sym (pids_same m k there)) ∙ apart))
+holds_swapped n m o q v c apart here there = absurd (true≢false (sym here))
+
+-- no cell is met by a row and by the holder of a name
+no_both : (t : Ref) (key : Key) (n : Name) (c : Cell) → meet (Row t key) c ≡ true → meet (Holder n) c ≡ true → ⊥
+no_both t key n (Row u l) here there = true≢false (sym there)
+no_both t key n (Rows u) here there = true≢false (sym there)
+no_both t key n c here there = true≢false (sym here)
+
+-- of two changes that meet one cell and not each other, both are writes, or both of holders
+where_both : (k l : Change) (v : Contents) (c : Cell) → meet (cell_of k) (cell_of l) ≡ false → meet (cell_of k) c ≡ true → meet (cell_of l) c ≡ true → Nature k → Nature l → changed l (changed k v) c ≡ changed k (changed l v) c
+unfolding Nature IsWrite IsHeld IsIdle
+where_both k l v c apart here there (inl whole_) n = absurd (true≢false (sym (left_meets (cell_of k) (cell_of l) c whole_ here there) ∙ apart))
+where_both k l v c apart here there m (inl whole_) = absurd (true≢false (sym (right_meets (cell_of k) (cell_of l) c whole_ here there) ∙ apart))
+where_both k l v c apart here there (inr (inr (inr idle))) n = passes k l v c (λ w. idle w c)
+where_both k l v c apart here there m (inr (inr (inr idle))) = sym (passes l k v c (λ w. idle w c))
 where_both k l v c apart here there (inr (inl one)) (inr (inl two)) =
     let ks = one.3 in
     let ls = two.3 in
     (λ i. changed (ls i) (changed (ks i) v) c)
     ∙ writes_swapped one.0 two.0 one.1 two.1 one.2 two.2 v c ((λ i. meet (cell_of (sym ks i)) (cell_of (sym ls i))) ∙ apart) ((λ i. meet (cell_of (sym ks i)) c) ∙ here) ((λ i. meet (cell_of (sym ls i)) c) ∙ there)
     ∙ sym (λ i. changed (ks i) (changed (ls i) v) c)
+where_both k l v c apart here there (inr (inr (inl one))) (inr (inr (inl two))) =
+    let ks = one.2 in
+    let ls = two.2 in
+    let first : cell_of k ≡ Holder one.0 = ap cell_of ks ∙ cell_held one.0 one.1 in
+    let second : cell_of l ≡ Holder two.0 = ap cell_of ls ∙ cell_held two.0 two.1 in
+    (λ i. changed (ls i) (changed (ks i) v) c)
+    ∙ holds_swapped one.0 two.0 one.1 two.1 v c ((λ i. meet (sym first i) (sym second i)) ∙ apart) ((λ i. meet (sym first i) c) ∙ here) ((λ i. meet (sym second i) c) ∙ there)
+    ∙ sym (λ i. changed (ks i) (changed (ls i) v) c)
+where_both k l v c apart here there (inr (inl one)) (inr (inr (inl two))) =
+    absurd (no_both one.0 one.1 two.0 c ((λ i. meet (cell_of (sym one.3 i)) c) ∙ here) ((λ i. meet (sym (ap cell_of two.2 ∙ cell_held two.0 two.1) i) c) ∙ there))
+where_both k l v c apart here there (inr (inr (inl one))) (inr (inl two)) =
+    absurd (no_both two.0 two.1 one.0 c ((λ i. meet (cell_of (sym two.3 i)) c) ∙ there) ((λ i. meet (sym (ap cell_of one.2 ∙ cell_held one.0 one.1) i) c) ∙ here))
 
 in_either_order : (k l : Change) (v : Contents) (c : Cell) → meet (cell_of k) (cell_of l) ≡ false → changed l (changed k v) c ≡ changed k (changed l v) c
 in_either_order k l v c apart =

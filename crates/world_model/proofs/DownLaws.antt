@@ -6,15 +6,15 @@ use Rattle.term_core.specs.Meaning.{Meaning}
 use Rattle.term_core.specs.declared.step.Step.{Step}
 use Rattle.term_core.specs.declared.step.Step.TheVariants.{Turn, Deliver}
 use Rattle.core_calls.specs.declared.call.CallKind.{CallKind}
-use Rattle.world_model.specs.Bonds.{watched_by_call, watched_in}
-use Rattle.world_model.specs.Calls.{Call, Spawn, Alone, Linked, Watched, Send, ToProcess, ToName, ToReference, ToNobody, SendExit, Link, Monitor, StartTimer, Demonitor, OnTable, TableCall, TableArgument, First, GiveAway, call_of}
+use Rattle.world_model.specs.Bonds.{named_target, watched_by_call, watched_in}
+use Rattle.world_model.specs.Calls.{Call, Spawn, Alone, Linked, Watched, Send, ToProcess, ToName, ToReference, ToNode, ToAnotherNode, ToNobody, SendExit, Link, Monitor, MonitorName, StartTimer, Demonitor, OnTable, TableCall, TableArgument, First, GiveAway, call_of}
 use Rattle.world_model.specs.Cells.{Contents, Alive, Links, Owned, Table, Watch, Watchers, Guard, Front, Tail}
 use Rattle.world_model.specs.Changes.{after}
 use Rattle.world_model.specs.Events.{Event, History, event, Deed, Served, EndedItself, Ended, RanAway, Delivered, Signal, Message, Exit, LinkExit, Down, Guarded, Elapsed, Fate, Kills}
 use Rattle.world_model.specs.Guards.{aliased, ends_by_reply}
 use Rattle.world_model.specs.TableAccess.{Found}
 use Rattle.world_model.specs.Names.{Pid, Ref, same_pid, same_ref}
-use Rattle.world_model.specs.Posted.{on_way, if_lives, put_for_holder, put_for_alias, put_by_link, put_by_watch, put_by_gift, put_by_call, put_for_heir, put_for_table, put_for_heirs, put_for_partners, put_for_watchers, put_by_end, put_in, outlives}
+use Rattle.world_model.specs.Posted.{on_way, if_lives, put_for_holder, put_for_alias, put_by_link, put_by_watch, put_by_named, put_by_gift, put_by_call, put_for_heir, put_for_table, put_for_heirs, put_for_partners, put_for_watchers, put_by_end, put_in, outlives}
 use Rattle.world_model.specs.ProcessLines.{LinkWay, Stands, Pairs, PairsGone, Fails, link_way, next_child, next_ref, noproc, timer_message}
 use Rattle.world_model.specs.Requests.{Program}
 use Rattle.world_model.specs.Run.{IsRun}
@@ -90,6 +90,9 @@ new_by h p (Monitor false None alias) ref there y now = inl now
 new_by h p (Monitor false (Some q) alias) ref there y now = inl now
 new_by h p (Monitor true (Some q) None) ref there y now = inl now
 new_by h p (Monitor true (Some q) (Some alias)) ref there y now = begun_by (same_ref (next_ref (contents h) p) ref) q there y now
+new_by h p (MonitorName false name alias) ref there y now = inl now
+new_by h p (MonitorName true name None) ref there y now = inl now
+new_by h p (MonitorName true name (Some alias)) ref there y now = begun_by (same_ref (next_ref (contents h) p) ref) (named_target p (holder h name)) there y now
 new_by h p (Demonitor None flushes) ref there y now = inl now
 new_by h p (Demonitor (Some u) None) ref there y now = inl now
 new_by h p (Demonitor (Some u) (Some flushes)) ref there y now = inl (ended_by (same_pid u.pid p && same_ref u ref) there y now)
@@ -173,6 +176,10 @@ watch_fit : (g : History) (lives : Bool) (p q : Pid) (ref : Ref) (s r : Pid) →
 watch_fit g true p q ref s r fit = tt
 watch_fit g false p q ref s r fit = on_way_fit g q p (Down ref noproc) s r fit
 
+named_fit : (g h : History) (p : Pid) (o : Option Pid) (ref : Ref) (s r : Pid) → Fits g (named_target p o) ref → AllFit g s (put_by_named h p o ref s r)
+named_fit g h p None ref s r fit = watch_fit g false p p ref s r fit
+named_fit g h p (Some q) ref s r fit = watch_fit g (alive h q) p q ref s r fit
+
 gift_fit : (g : History) (o : Option Found) (to : Pid) (gift_ : Meaning) (s r : Pid) → AllFit g s (put_by_gift o to gift_ s r)
 gift_fit g None to gift_ s r = tt
 gift_fit g (Some f) to gift_ s r = on_way_fit g f.table.owner to _ s r tt
@@ -195,6 +202,8 @@ call_fit g h p (Send ToNobody m) s r now told = tt
 call_fit g h p (Send (ToProcess to) m) s r now told = own_fit g h p to (Message m) s r (same_pid p to) tt
 call_fit g h p (Send (ToReference u) m) s r now told = alias_fit g h p (aliased (guarded h u)) (Guarded u m) s r tt
 call_fit g h p (Send (ToName name) m) s r now told = holder_fit g h p (holder h name) (Message m) s r tt
+call_fit g h p (Send (ToNode name) m) s r now told = holder_fit g h p (holder h name) (Message m) s r tt
+call_fit g h p (Send ToAnotherNode m) s r now told = tt
 call_fit g h p (SendExit None reason) s r now told = tt
 call_fit g h p (SendExit (Some to) reason) s r now told = own_fit g h p to (Exit reason) s r (same_pid p to) tt
 call_fit g h p (Link None) s r now told = tt
@@ -208,6 +217,9 @@ call_fit g h p (StartTimer is_named (Some time) None m) s r now told = tt
 call_fit g h p (StartTimer is_named None (Some to) m) s r now told = tt
 call_fit g h p (StartTimer is_named (Some time) (Some to) m) s r now told = lives_fit g s (alive h to) _ (on_way_fit g (next_child (contents h) p) to (Elapsed (next_ref (contents h) p) (timer_message is_named (next_ref (contents h) p) m)) s r tt)
 call_fit g h p (Monitor true (Some q) (Some alias)) s r now told = watch_fit g (alive h q) p q (next_ref (contents h) p) s r (new_fit g h p q now (told (next_ref (contents h) p)))
+call_fit g h p (MonitorName false name alias) s r now told = tt
+call_fit g h p (MonitorName true name None) s r now told = tt
+call_fit g h p (MonitorName true name (Some alias)) s r now told = named_fit g h p (holder h name) (next_ref (contents h) p) s r (new_fit g h p (named_target p (holder h name)) now (told (next_ref (contents h) p)))
 call_fit g h p (OnTable argument call) s r now told = table_fit g h p argument call s r
 call_fit g h p call s r now told = tt
 

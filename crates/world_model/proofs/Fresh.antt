@@ -6,7 +6,7 @@ use Rattle.term_core.specs.declared.step.Step.{Step}
 use Rattle.term_core.specs.declared.step.Step.TheVariants.{Turn, Deliver}
 use Rattle.core_calls.specs.declared.call.CallKind.{CallKind}
 use Rattle.core_semantics.specs.Ask.{is_first}
-use Rattle.world_model.specs.Calls.{Call, New, OnTable, Spawn, Monitor, call_of}
+use Rattle.world_model.specs.Calls.{Call, New, OnTable, Spawn, Monitor, MonitorName, call_of}
 use Rattle.world_model.specs.Cells.{Table, Contents, Alive, Machine, Watch}
 use Rattle.world_model.specs.Events.{Event, History, event, Served, Deed}
 use Rattle.world_model.specs.Names.{Pid, Ref, same_ref, same_pid}
@@ -74,6 +74,7 @@ makes_next v p call t is = absurd cc
 watches_next : (v : Contents) (p : Pid) (call : Call) (t : Ref) → watches_by v p call t ≡ true → same_ref (next_ref v p) t ≡ true
 watches_next v p (Spawn way origin) t is = is
 watches_next v p (Monitor is_process whom alias) t is = is
+watches_next v p (MonitorName is_process name alias) t is = is
 watches_next v p call t is = absurd cc
 
 begun_next : (h : History) (p : Pid) (call : Call) (q : Pid) → is_it (begun_by_call h p call) q ≡ true → next_child (contents h) p ≡ q

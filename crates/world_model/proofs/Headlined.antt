@@ -55,6 +55,14 @@ three_of (a ∷ b ∷ []) long = absurd (omega (arith, long))
 three_of (a ∷ b ∷ c ∷ []) long = (a, b, c, refl)
 three_of (a ∷ b ∷ c ∷ d ∷ xs) long = absurd (omega (arith, long))
 
+four_of : (xs : List Meaning) → length xs ≡ 4 → (a : Meaning) × (b : Meaning) × (c : Meaning) × (d : Meaning) × (xs ≡ a ∷ b ∷ c ∷ d ∷ [])
+four_of [] long = absurd (omega (arith, long))
+four_of (a ∷ []) long = absurd (omega (arith, long))
+four_of (a ∷ b ∷ []) long = absurd (omega (arith, long))
+four_of (a ∷ b ∷ c ∷ []) long = absurd (omega (arith, long))
+four_of (a ∷ b ∷ c ∷ d ∷ []) long = (a, b, c, d, refl)
+four_of (a ∷ b ∷ c ∷ d ∷ e ∷ xs) long = absurd (omega (arith, long))
+
 fits : (kind : CallKind) (xs : List Meaning) → same_name (signature kind).module_name (codes "ets") ≡ true → length xs ≡ (signature kind).arity → OfTables (call_of kind xs) ≡ true
 fits kinds.New xs of long = ap (λ ys. OfTables (call_of kinds.New ys)) (two_of xs long).2
 fits kinds.Lookup xs of long = ap (λ ys. OfTables (call_of kinds.Lookup ys)) (two_of xs long).2
@@ -73,10 +81,12 @@ fits kinds.DeleteObject xs of long = ap (λ ys. OfTables (call_of kinds.DeleteOb
 fits kinds.DeleteAllObjects xs of long = ap (λ ys. OfTables (call_of kinds.DeleteAllObjects ys)) (one_of xs long).1
 fits kinds.Take xs of long = ap (λ ys. OfTables (call_of kinds.Take ys)) (two_of xs long).2
 fits kinds.UpdateCounter xs of long = ap (λ ys. OfTables (call_of kinds.UpdateCounter ys)) (three_of xs long).3
+fits kinds.UpdateCounterWith xs of long = ap (λ ys. OfTables (call_of kinds.UpdateCounterWith ys)) (four_of xs long).4
 fits kinds.UpdateElement xs of long = ap (λ ys. OfTables (call_of kinds.UpdateElement ys)) (three_of xs long).3
 fits kinds.GiveAway xs of long = ap (λ ys. OfTables (call_of kinds.GiveAway ys)) (three_of xs long).3
 fits kinds.SetOptions xs of long = ap (λ ys. OfTables (call_of kinds.SetOptions ys)) (two_of xs long).2
 fits kinds.Info xs of long = ap (λ ys. OfTables (call_of kinds.Info ys)) (two_of xs long).2
+fits kinds.InfoAll xs of long = ap (λ ys. OfTables (call_of kinds.InfoAll ys)) (one_of xs long).1
 fits kind xs of long = absurd (true≢false (sym of))
 
 -- ---- what such a call results in

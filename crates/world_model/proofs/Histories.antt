@@ -2,7 +2,7 @@
 use Rattle.std.proofs.Common.{◌∙◌, ap, refl, sym}
 use Rattle.std.specs.Prelude.{◌∷◌, ◌||◌, ◌≡◌, ◌&&◌, List, map, [], Option, option_map, Some, None, unwrap_or, drop, not, true, Bool, false, is_some}
 use Rattle.term_core.specs.declared.step.Step.{Step}
-use Rattle.world_model.specs.Cells.{Cell, meet, Contents, Alive, Machine, Trap, Front, Tail, Taken, Mailed, Links, Watch, Guard, Holder, Table, Row, Rows}
+use Rattle.world_model.specs.Cells.{Cell, meet, Contents, Alive, Machine, Trap, Front, Tail, Taken, Mailed, Links, Watch, Guard, Holder, Holders, Table, Row, Rows}
 use Rattle.world_model.specs.Changes.{after, Change, cell_of}
 use Rattle.world_model.specs.Commuting.{TellTheSame, Commutes, IndependentCommute}
 use Rattle.world_model.specs.Events.{Event, event, Deed, History}
@@ -71,6 +71,7 @@ same_contents h g same =
       watched = λ ref. same (Watch ref);
       guarded = λ ref. same (Guard ref);
       holder = λ name. same (Holder name);
+      holders = same Holders;
       found = λ argument. ap (λ v. find v argument) all;
       table = λ t. same (Table t);
       owner = λ t. ap (option_map (λ x. x.owner)) (same (Table t));

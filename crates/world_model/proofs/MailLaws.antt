@@ -7,7 +7,7 @@ use Rattle.term_core.specs.declared.step.Step.{Step}
 use Rattle.term_core.specs.declared.step.Step.TheVariants.{Deliver, Turn}
 use Rattle.core_calls.specs.declared.call.CallKind.{CallKind}
 use Rattle.core_semantics.specs.Asked as answered
-use Rattle.world_model.specs.Calls.{Call, Send, ToNobody, ToProcess, ToName, ToReference, SendExit, Demonitor, OnTable, call_of}
+use Rattle.world_model.specs.Calls.{Call, Send, ToNobody, ToProcess, ToName, ToReference, ToNode, ToAnotherNode, SendExit, Demonitor, OnTable, call_of}
 use Rattle.world_model.specs.Cells.{Machine, Taken, Mailed, Contents, Alive, Watch, Watchers, Guard, Holder, Tail, meet, Front}
 use Rattle.world_model.specs.Changes.{after, WatchCleared, WatcherRemoved, GuardUnwatched, CellTouched, MessageAdded, MessageTaken, without_first, is_of_watch, changed, TurnTaken, SignalDelivered, Change, SignalPut}
 use Rattle.world_model.specs.Events.{Signal, Message, Exit, History, Guarded, Fate, Delivered, Arrives, IsIgnored, IsDropped, Kills, Deed, Served, Refused, EndedItself, Ended, Received, TimedOut, RanAway, Event, Refusal}
@@ -127,6 +127,8 @@ call_mail h w p (Send ToNobody m) q same sound = refl
 call_mail h w p (Send (ToProcess to) m) q same sound = sent_mail (same_pid p to) (contents h) w p to q m sound
 call_mail h w p (Send (ToReference ref) m) q same sound = alias_mail (contents h) w p ref (aliased (contents h (Guard ref))) q m
 call_mail h w p (Send (ToName name) m) q same sound = holder_mail (contents h) w p (contents h (Holder name)) q m sound
+call_mail h w p (Send (ToNode name) m) q same sound = holder_mail (contents h) w p (contents h (Holder name)) q m sound
+call_mail h w p (Send ToAnotherNode m) q same sound = refl
 call_mail h w p (SendExit None reason) q same sound = refl
 call_mail h w p (SendExit (Some to) reason) q same sound = exited_mail (same_pid p to) (contents h) w p to q reason sound
 call_mail h w p (Demonitor None flushes) q same sound = refl

@@ -4,7 +4,7 @@ use Rattle.std.specs.Prelude.{bytes_eq}
 use Rattle.std.proofs.lemmas.Slice.Eq.{bytes_eq-Decides}
 use Rattle.std.proofs.lemmas.Bool.{eqb-true, eq-eqb}
 use Rattle.world_model.specs.Names.{Ref, same_pid, same_ref}
-use Rattle.world_model.specs.Cells.{Cell, Machine, Alive, Trap, Watchers, Watch, Guard, Holder, NameOf, Taken, Mailed, Front, Tail, Links, TableName, Table, Row, Rows, Owned, meet}
+use Rattle.world_model.specs.Cells.{Cell, Machine, Alive, Trap, Watchers, Watch, Guard, Holder, Holders, NameOf, Taken, Mailed, Front, Tail, Links, TableName, Table, Row, Rows, Owned, meet}
 
 pub both : (a b : Bool) → (a && b) ≡ true → (a ≡ true) × (b ≡ true)
 both true b e = (refl, e)
@@ -30,14 +30,16 @@ refs_same a b e =
 pub ref_itself : (a : Ref) → same_ref a a ≡ true
 ref_itself a = λ i. (pid_itself a.pid i) && (number_itself a.number) i
 
--- a row is a part of all rows; every other cell is itself
+-- a row is a part of all rows, and the holder of a name of all holders; every other cell is itself
 abbrev pub whole : Cell → Cell
 whole (Row t k) = Rows t
+whole (Holder n) = Holders
 whole c = c
 
-abbrev pub is_row : Cell → Bool
-is_row (Row t k) = true
-is_row c = false
+abbrev pub is_part : Cell → Bool
+is_part (Row t k) = true
+is_part (Holder n) = true
+is_part c = false
 
 -- cells that meet are parts of one
 pub whole_same : (a b : Cell) → meet a b ≡ true → whole a ≡ whole b
@@ -63,7 +65,10 @@ whole_same (Trap p) (Trap q) e = ap Trap (pids_same p q e)
 whole_same (Watchers p) (Watchers q) e = ap Watchers (pids_same p q e)
 whole_same (Watch p) (Watch q) e = ap Watch (refs_same p q e)
 whole_same (Guard p) (Guard q) e = ap Guard (refs_same p q e)
-whole_same (Holder n) (Holder m) e = ap Holder (pids_same n m e)
+whole_same (Holder n) (Holder m) e = refl
+whole_same (Holder n) Holders e = refl
+whole_same Holders (Holder m) e = refl
+whole_same Holders Holders e = refl
 whole_same (NameOf p) (NameOf q) e = ap NameOf (pids_same p q e)
 whole_same a b e = absurd (true≢false (sym e))
 
@@ -88,24 +93,27 @@ meets_whole (Trap p) = pid_itself p
 meets_whole (Watchers p) = pid_itself p
 meets_whole (Watch r) = ref_itself r
 meets_whole (Guard r) = ref_itself r
-meets_whole (Holder n) = pid_itself n
+meets_whole (Holder n) = refl
+meets_whole Holders = refl
 meets_whole (NameOf p) = pid_itself p
 
 pub whole_meets : (a : Cell) → meet (whole a) a ≡ true
 whole_meets (Row t k) = ref_itself t
+whole_meets (Holder n) = refl
 whole_meets a = meets_whole a
 
-whole_itself : (a : Cell) → is_row a ≡ false → whole a ≡ a
+whole_itself : (a : Cell) → is_part a ≡ false → whole a ≡ a
 whole_itself (Row t k) other = absurd (true≢false other)
+whole_itself (Holder n) other = absurd (true≢false other)
 whole_itself a other = refl
 
--- two that meet a third meet each other, unless both are rows
-pub left_meets : (a b c : Cell) → is_row a ≡ false → meet a c ≡ true → meet b c ≡ true → meet a b ≡ true
+-- two that meet a third meet each other, unless both are parts
+pub left_meets : (a b c : Cell) → is_part a ≡ false → meet a c ≡ true → meet b c ≡ true → meet a b ≡ true
 left_meets a b c other e f =
     let same : whole b ≡ a = whole_same b c f ∙ sym (whole_same a c e) ∙ whole_itself a other in
     ap (λ x. meet x b) (sym same) ∙ whole_meets b
 
-pub right_meets : (a b c : Cell) → is_row b ≡ false → meet a c ≡ true → meet b c ≡ true → meet a b ≡ true
+pub right_meets : (a b c : Cell) → is_part b ≡ false → meet a c ≡ true → meet b c ≡ true → meet a b ≡ true
 right_meets a b c other e f =
     let same : whole a ≡ b = whole_same a c e ∙ sym (whole_same b c f) ∙ whole_itself b other in
     ap (λ x. meet a x) (sym same) ∙ meets_whole a

@@ -3,7 +3,7 @@ use Rattle.std.proofs.Common.{◌≡◌, Bool, true, false, ◌&&◌, List, [], 
 use Rattle.term_core.specs.Meaning.{Meaning}
 use Rattle.term_core.specs.declared.step.Step.{Step}
 use Rattle.term_core.specs.declared.step.Step.TheVariants.{Deliver, Turn}
-use Rattle.world_model.specs.Calls.{Call, Spawn, Send, ToNobody, ToProcess, ToName, ToReference, SendExit, Link, Unlink, Monitor, Demonitor, Flag, Register, Unregister, WhereIs, IsAlive, MakeRef, MakeAlias, Unalias, StartTimer, CancelTimer, ReadTimer, New, OnTable, Misfit, GiveAway, Lookup, Member, LookupElement, First, Last, Next, Prev, ToList, Insert, InsertNew, DeleteTable, DeleteKey, DeleteObject, DeleteAll, Take, UpdateCounter, UpdateElement, SetOptions, Info, call_of}
+use Rattle.world_model.specs.Calls.{Call, Spawn, Send, ToNobody, ToProcess, ToName, ToReference, ToNode, ToAnotherNode, SendExit, Link, Unlink, Monitor, MonitorName, Demonitor, Flag, Register, Unregister, WhereIs, Registered, IsAlive, ProcessInfo, MakeRef, MakeAlias, Unalias, StartTimer, CancelTimer, ReadTimer, New, OnTable, Misfit, GiveAway, Lookup, Member, LookupElement, First, Last, Next, Prev, ToList, Insert, InsertNew, DeleteTable, DeleteKey, DeleteObject, DeleteAll, Take, UpdateCounter, UpdateElement, SetOptions, Info, InfoAll, call_of}
 use Rattle.world_model.specs.Cells.{Contents, Alive, Tail, Holder, Links, Trap, Owned, Table, Watch, Watchers, Guard, NameOf}
 use Rattle.world_model.specs.Changes.{Change, SignalPut, after, changed, AliveCleared, TableNameCleared, OwnedCleared}
 use Rattle.world_model.specs.Ends.{passed, table_passes, tables_pass, partners_told, watchers_told, name_left, left_by, living_heir}
@@ -14,8 +14,8 @@ use Rattle.world_model.specs.TableRules.{found_line}
 use Rattle.world_model.specs.Lines.{line}
 use Rattle.world_model.specs.Mail.{signals_to}
 use Rattle.world_model.specs.Names.{Pid, same_pid, Ref, Name}
-use Rattle.world_model.specs.Posted.{on_way, if_lives, put_for_holder, put_for_alias, put_by_link, put_by_watch, put_by_gift, put_by_call, outlives, put_for_heir, put_for_table, put_for_heirs, put_for_partners, put_for_watchers, put_by_end, put_in, PutsAreTold}
-use Rattle.world_model.specs.ProcessLines.{sent, exited, sent_to_holder, LinkWay, Stands, Pairs, PairsGone, Fails, link_changes, link_way, gone_told, next_child, next_ref, alias_begins, alias_beside, send_line, timer_message}
+use Rattle.world_model.specs.Posted.{on_way, if_lives, put_for_holder, put_for_alias, put_by_link, put_by_watch, put_by_named, put_by_gift, put_by_call, outlives, put_for_heir, put_for_table, put_for_heirs, put_for_partners, put_for_watchers, put_by_end, put_in, PutsAreTold}
+use Rattle.world_model.specs.ProcessLines.{sent, exited, sent_to_holder, LinkWay, Stands, Pairs, PairsGone, Fails, link_changes, link_way, gone_told, next_child, next_ref, alias_begins, alias_beside, named_line, send_line, timer_message}
 use Rattle.world_model.specs.Signals.{put_if, goes_with, reply_ends}
 use Rattle.world_model.specs.Steps.{changes_of_fate, changes_by}
 use Rattle.world_model.specs.Tables as tables
@@ -85,6 +85,10 @@ gone_put : (b : Bool) (p q : Pid) (ref : Ref) (s r : Pid) → signals_to s r (go
 gone_put true p q ref s r = refl
 gone_put false p q ref s r = refl
 
+named_put : (h : History) (p : Pid) (name : Name) (alias : Option AliasEnd) (o : Option Pid) (s r : Pid) → signals_to s r (named_line (contents h) p name (next_ref (contents h) p) alias o).changes ≡ put_by_named h p o (next_ref (contents h) p) s r
+named_put h p name alias None s r = gone_put false p p (next_ref (contents h) p) s r
+named_put h p name alias (Some q) s r = gone_put (contents h (Alive q)) p q (next_ref (contents h) p) s r
+
 gift_put : (v : Contents) (p : Pid) (o : Option Found) (to : Pid) (gift_ : Meaning) (s r : Pid) → signals_to s r (found_line v p (GiveAway (Some to) gift_) o).changes ≡ put_by_gift o to gift_ s r
 gift_put v p None to gift_ s r = refl
 gift_put v p (Some f) to gift_ s r = refl
@@ -98,6 +102,8 @@ call_put h p (Send ToNobody m) s r = refl
 call_put h p (Send (ToProcess to) m) s r = sent_put (same_pid p to) h p to m s r
 call_put h p (Send (ToReference ref) m) s r = alias_put h p ref (aliased (contents h (Guard ref))) m s r
 call_put h p (Send (ToName name) m) s r = holder_put h p (contents h (Holder name)) m s r
+call_put h p (Send (ToNode name) m) s r = holder_put h p (contents h (Holder name)) m s r
+call_put h p (Send ToAnotherNode m) s r = refl
 call_put h p (SendExit None reason) s r = refl
 call_put h p (SendExit (Some to) reason) s r = exited_put (same_pid p to) h p to reason s r
 call_put h p (Link None) s r = refl
@@ -107,6 +113,9 @@ call_put h p (Monitor false None alias) s r = refl
 call_put h p (Monitor false (Some q) alias) s r = refl
 call_put h p (Monitor true (Some q) None) s r = refl
 call_put h p (Monitor true (Some q) (Some alias)) s r = begins_put p (next_ref (contents h) p) (alias_beside (same_pid p q) alias) (gone_told (contents h (Alive q)) p q (next_ref (contents h) p)) s r ∙ gone_put (contents h (Alive q)) p q (next_ref (contents h) p) s r
+call_put h p (MonitorName false name alias) s r = refl
+call_put h p (MonitorName true name None) s r = refl
+call_put h p (MonitorName true name (Some alias)) s r = named_put h p name alias (contents h (Holder name)) s r
 call_put h p (OnTable argument (GiveAway None gift_)) s r = no_gift (contents h) p (find (contents h) argument) gift_ s r
 call_put h p (OnTable argument (GiveAway (Some to) gift_)) s r = gift_put (contents h) p (find (contents h) argument) to gift_ s r
 call_put h p (OnTable argument (Lookup key)) s r = silent_call (contents h) p (OnTable argument (Lookup key)) s r refl
@@ -124,10 +133,11 @@ call_put h p (OnTable argument (DeleteKey key)) s r = silent_call (contents h) p
 call_put h p (OnTable argument (DeleteObject object)) s r = silent_call (contents h) p (OnTable argument (DeleteObject object)) s r refl
 call_put h p (OnTable argument DeleteAll) s r = silent_call (contents h) p (OnTable argument DeleteAll) s r refl
 call_put h p (OnTable argument (Take key)) s r = silent_call (contents h) p (OnTable argument (Take key)) s r refl
-call_put h p (OnTable argument (UpdateCounter key increment)) s r = silent_call (contents h) p (OnTable argument (UpdateCounter key increment)) s r refl
-call_put h p (OnTable argument (UpdateElement key change)) s r = silent_call (contents h) p (OnTable argument (UpdateElement key change)) s r refl
+call_put h p (OnTable argument (UpdateCounter key increment default)) s r = silent_call (contents h) p (OnTable argument (UpdateCounter key increment default)) s r refl
+call_put h p (OnTable argument (UpdateElement key changes)) s r = silent_call (contents h) p (OnTable argument (UpdateElement key changes)) s r refl
 call_put h p (OnTable argument (SetOptions heirs)) s r = silent_call (contents h) p (OnTable argument (SetOptions heirs)) s r refl
 call_put h p (OnTable argument (Info item)) s r = silent_call (contents h) p (OnTable argument (Info item)) s r refl
+call_put h p (OnTable argument InfoAll) s r = silent_call (contents h) p (OnTable argument InfoAll) s r refl
 call_put h p (Spawn way origin) s r = silent_call (contents h) p (Spawn way origin) s r refl
 call_put h p (Unlink q) s r = silent_call (contents h) p (Unlink q) s r refl
 call_put h p (Demonitor ref flush) s r = silent_call (contents h) p (Demonitor ref flush) s r refl
@@ -135,6 +145,8 @@ call_put h p (Flag b) s r = silent_call (contents h) p (Flag b) s r refl
 call_put h p (Register n q) s r = silent_call (contents h) p (Register n q) s r refl
 call_put h p (Unregister n) s r = silent_call (contents h) p (Unregister n) s r refl
 call_put h p (WhereIs n) s r = silent_call (contents h) p (WhereIs n) s r refl
+call_put h p Registered s r = silent_call (contents h) p Registered s r refl
+call_put h p (ProcessInfo q item) s r = silent_call (contents h) p (ProcessInfo q item) s r refl
 call_put h p (IsAlive q) s r = silent_call (contents h) p (IsAlive q) s r refl
 call_put h p MakeRef s r = refl
 call_put h p (MakeAlias end) s r = silent_call (contents h) p (MakeAlias end) s r refl

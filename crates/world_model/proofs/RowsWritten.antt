@@ -1,25 +1,24 @@
 -- A served call of a table writes the rows of its line, and what it leaves there.
-use Rattle.std.proofs.Common.{true≢false, ◌≡◌, Bool, true, false, ◌&&◌, List, [], ◌∷◌, ◌++◌, map, ap, Option, Some, None, refl, ◌∙◌, if◌then◌else◌}
+use Rattle.std.proofs.Common.{true≢false, ◌≡◌, ℕ, Bool, true, false, ◌&&◌, List, [], ◌∷◌, ◌++◌, map, ap, Option, Some, None, refl, ◌∙◌, if◌then◌else◌}
 use Rattle.std.specs.List.{cons_option}
 use Rattle.std.specs.Option.{option_or}
 use Rattle.core_semantics.specs.Asked as answered
-use Rattle.world_model.specs.Calls.{Lookup, Member, LookupElement, First, Last, Next, Prev, ToList, Insert, InsertNew, DeleteTable, DeleteKey, DeleteObject, DeleteAll, Take, UpdateCounter, UpdateElement, GiveAway, SetOptions, Info, TableCall}
+use Rattle.term_core.specs.Meaning.{Meaning}
+use Rattle.world_model.specs.Calls.{Lookup, Member, LookupElement, First, Last, Next, Prev, ToList, Insert, InsertNew, DeleteTable, DeleteKey, DeleteObject, DeleteAll, Take, UpdateCounter, UpdateElement, GiveAway, SetOptions, Info, InfoAll, TableCall}
 use Rattle.world_model.specs.Cells.{Table, Row, Rows, Contents, meet}
 use Rattle.world_model.specs.Changes.{Change, cell_of, HeirSet, TableNameCleared, after, changed, TableRemoved, RowsCleared, OwnedRemoved, TurnTaken}
 use Rattle.world_model.specs.TableAccess.{Found}
 use Rattle.world_model.specs.TableRules.{found_line}
 use Rattle.world_model.specs.Lines.{line}
 use Rattle.world_model.specs.Names.{Ref, Name, same_ref, Pid}
-use Rattle.world_model.specs.Objects.{stored_at, stores, removed_at, removes, given, one_present, keys_asked, place_of, sum_of}
+use Rattle.world_model.specs.Objects.{stored_at, stores, removed_at, removes, given, one_present, keys_asked, counter_object, alters}
 use Rattle.world_model.specs.Ownership.{heirs_set}
-use Rattle.world_model.specs.Rows.{stored, Object, Key, parts_at, part_at, same_key, rewritten, Removes, altered}
-use Rattle.world_model.specs.RowsLeft.{rows_in, unless_present, key_of_object, WritesRows, under_key, is_key, stored_all, rows_left, LeavesRows, replaced, KeepsTheLast, last_with}
+use Rattle.world_model.specs.Rows.{stored, Object, Key, parts_at, part_at, with_parts, same_key, rewritten, Removes}
+use Rattle.world_model.specs.RowsLeft.{rows_in, unless_present, if_there, key_of_object, WritesRows, under_key, is_key, stored_all, with_changes, rows_left, LeavesRows, replaced, KeepsTheLast, last_with}
 use Rattle.world_model.specs.TableLines.{table_line}
 use Rattle.world_model.specs.Tables.{Heir, is_bag}
 use Rattle.world_model.specs.RowFootprints.{cells_of}
 use Rattle.world_model.specs.World.{contents}
-use Rattle.world_model.specs.declared.rule.Rule.{Rule}
-use Rattle.world_model.specs.declared.rule.Rule.TheVariants.{BagRefused, BadPosition}
 use Rattle.world_model.specs.declared.table.Kind.TheVariants.{Set, OrderedSet, Bag, DuplicateBag}
 use Rattle.world_model.specs.declared.table.Kind.{Kind}
 use Rattle.world_model.proofs.Commuting.{either_way}
@@ -48,9 +47,9 @@ removes_write : (f : Found) (o : Option Object) → rows_in (map cell_of (remove
 removes_write f None = refl
 removes_write f (Some o) = removed_write f o (part_at f.table.position o)
 
-not_served : (b : Bool) (r s : Rule) → (if b then Some r else Some s) ≡ None → ⊥
-not_served true r s e = absurd cc
-not_served false r s e = absurd cc
+altered_write : (f : Found) (key : Key) (changes : Option (List (ℕ × Meaning))) (there : List Object) → rows_in (map cell_of (alters f key changes there)) ≡ cells_of f.ref (if_there there key)
+altered_write f key changes [] = refl
+altered_write f key changes (object ∷ objects) = refl
 
 heirs_write : (t : Ref) (hs : List Heir) → rows_in (map cell_of (map (HeirSet t) hs)) ≡ []
 heirs_write t [] = refl
@@ -80,14 +79,14 @@ writes_rows v p f (DeleteKey key) served = refl
 writes_rows v p f (DeleteObject object) served = removes_write f object
 writes_rows v p f DeleteAll served = refl
 writes_rows v p f (Take key) served = refl
-writes_rows v p f (UpdateCounter key increment) served = refl
-writes_rows v p f (UpdateElement key (Some change)) served = refl
-writes_rows v p f (UpdateElement key None) served = absurd (not_served (is_bag f.table.kind) BagRefused BadPosition served)
+writes_rows v p f (UpdateCounter key increment default) served = refl
+writes_rows v p f (UpdateElement key changes) served = altered_write f key changes (v (Row f.ref key))
 writes_rows v p f (GiveAway (Some to) gift_) served = refl
 writes_rows v p f (GiveAway None gift_) served = refl
 writes_rows v p f (SetOptions None) served = refl
 writes_rows v p f (SetOptions (Some hs)) served = set_write f.ref hs
 writes_rows v p f (Info item) served = refl
+writes_rows v p f InfoAll served = refl
 
 -- ---- what a served call leaves
 
@@ -134,6 +133,10 @@ same_twice : (b : Bool) (xs : List Object) → xs ≡ under_key b xs xs
 same_twice true xs = refl
 same_twice false xs = refl
 
+altered_leaves : (f : Found) (key : Key) (changes : Option (List (ℕ × Meaning))) (there : List Object) (w : Contents) (k : Key) → after (alters f key changes there) w (Row f.ref k) ≡ under_key (same_key key k) (with_changes f.table.kind changes there (w (Row f.ref k))) (w (Row f.ref k))
+altered_leaves f key changes [] w k = same_twice (same_key key k) (w (Row f.ref k))
+altered_leaves f key changes (object ∷ objects) w k = here f.ref (same_key key k) (stored f.table.kind (with_parts (given changes) object) (w (Row f.ref k))) (w (Row f.ref k))
+
 pub call_leaves_rows : (v w : Contents) (p : Pid) (f : Found) (call : TableCall) (k : Key) → after (table_line v p f call).changes w (Row f.ref k) ≡ rows_left v p f call k (w (Row f.ref k))
 call_leaves_rows v w p f (Insert objects) k = stores_leave f (given objects) w k
 call_leaves_rows v w p f (InsertNew objects) k = new_leaves f (given objects) w k (one_present v f.ref (keys_asked p f objects))
@@ -143,9 +146,8 @@ call_leaves_rows v w p f (DeleteObject None) k = refl
 call_leaves_rows v w p f (DeleteObject (Some o)) k = removed_leaves f o (part_at f.table.position o) w k
 call_leaves_rows v w p f DeleteAll k = wiped_here f.ref (w (Row f.ref k))
 call_leaves_rows v w p f (Take key) k = here f.ref (same_key key k) [] (w (Row f.ref k))
-call_leaves_rows v w p f (UpdateCounter key increment) k = here f.ref (same_key key k) (altered (place_of f.table.position increment) (sum_of f.table increment (v (Row f.ref key))) (w (Row f.ref k))) (w (Row f.ref k))
-call_leaves_rows v w p f (UpdateElement key None) k = same_twice (same_key key k) (w (Row f.ref k))
-call_leaves_rows v w p f (UpdateElement key (Some change)) k = here f.ref (same_key key k) (altered change.0 change.1 (w (Row f.ref k))) (w (Row f.ref k))
+call_leaves_rows v w p f (UpdateCounter key increment default) k = here f.ref (same_key key k) (stored f.table.kind (counter_object f.table key increment default (v (Row f.ref key))) (w (Row f.ref k))) (w (Row f.ref k))
+call_leaves_rows v w p f (UpdateElement key changes) k = altered_leaves f key changes (v (Row f.ref key)) w k
 call_leaves_rows v w p f (GiveAway None gift_) k = refl
 call_leaves_rows v w p f (GiveAway (Some to) gift_) k = refl
 call_leaves_rows v w p f (SetOptions None) k = set_leaves f.ref [] w k

@@ -3,21 +3,21 @@ use Rattle.std.proofs.Common.{◌∙◌, refl, sym, ap, true≢false}
 use Rattle.std.specs.List.{list_any}
 use Rattle.std.specs.Prelude.{true, false, List, ◌∷◌, ◌==◌, ◌≡◌, ◌++◌, if◌then◌else◌, ◌||◌, ℕ, [], Bool, Option, None, Some, is_some, map}
 use Rattle.term_core.specs.Meaning.{Meaning}
-use Rattle.world_model.specs.Calls.{Call, Spawn, SpawnWay, Alone, Link, Linked, Watched, TableCall, Insert, InsertNew, New, DeleteTable, DeleteKey, DeleteObject, DeleteAll, Take, UpdateCounter, UpdateElement, GiveAway, SetOptions, Send, ToNobody, ToProcess, ToName, ToReference, SendExit, Unlink, Monitor, Demonitor, Flag, Register, Unregister, WhereIs, IsAlive, MakeRef, MakeAlias, Unalias, StartTimer, CancelTimer, ReadTimer, OnTable, Misfit, First}
+use Rattle.world_model.specs.Calls.{Call, Spawn, SpawnWay, Alone, Link, Linked, Watched, TableCall, Insert, InsertNew, New, DeleteTable, DeleteKey, DeleteObject, DeleteAll, Take, UpdateCounter, UpdateElement, GiveAway, SetOptions, Send, ToNobody, ToProcess, ToName, ToReference, ToNode, ToAnotherNode, SendExit, Unlink, Monitor, MonitorName, Demonitor, Flag, Register, Unregister, WhereIs, Registered, IsAlive, ProcessInfo, MakeRef, MakeAlias, Unalias, StartTimer, CancelTimer, ReadTimer, OnTable, Misfit, First}
 use Rattle.world_model.specs.Cells.{Watch, Guard, Alive, Cell, meet, Row, Tail, Contents, Holder, Links, Trap, TableName, Machine, Taken, Mailed, Front}
 use Rattle.world_model.specs.Changes.{Change, cell_of, HeirSet, after, is_of_watch}
 use Rattle.world_model.specs.Ends.{name_freed}
 use Rattle.world_model.specs.Events.{Exit, Signal, Message, LinkExit, Down, Guarded, Elapsed}
-use Rattle.world_model.specs.Guards.{aliased, is_alias_of, ends_by_reply, timer_in}
+use Rattle.world_model.specs.Guards.{aliased, is_alias_of, ends_by_reply, timer_in, watch_name}
 use Rattle.world_model.specs.TableAccess.{Found, find}
 use Rattle.world_model.specs.TableRules.{found_line}
 use Rattle.world_model.specs.Lines.{line}
 use Rattle.world_model.specs.Mailboxes.{mailbox_in, selected_of}
 use Rattle.world_model.specs.Names.{Name, Ref, Pid, same_pid}
 use Rattle.world_model.specs.NewTables.{new_line, new_rule}
-use Rattle.world_model.specs.Objects.{stored_at, stores, removed_at, given, one_present, keys_asked}
+use Rattle.world_model.specs.Objects.{stored_at, stores, removed_at, given, one_present, keys_asked, alters}
 use Rattle.world_model.specs.Ownership.{heirs_set}
-use Rattle.world_model.specs.ProcessLines.{sent, bound, exited, sent_to_holder, LinkWay, link_changes, Stands, Pairs, PairsGone, Fails, gone_told, watch_ends, flushed, unregister_line, next_child, next_ref, link_way, send_line, alias_begins, alias_beside, timer_message}
+use Rattle.world_model.specs.ProcessLines.{sent, bound, exited, sent_to_holder, LinkWay, link_changes, Stands, Pairs, PairsGone, Fails, gone_told, watch_ends, flushed, unregister_line, next_child, next_ref, link_way, send_line, alias_begins, alias_beside, alias_goes, named_line, info_line, timer_message}
 use Rattle.world_model.specs.Requests.{Origin}
 use Rattle.world_model.specs.Rows.{Key, Object, part_at}
 use Rattle.world_model.specs.Signals.{put_if, goes_with, reply_ends}
@@ -27,6 +27,7 @@ use Rattle.world_model.specs.Tables.{Heir, is_named, TableOption}
 use Rattle.world_model.specs.World.{table}
 use Rattle.world_model.specs.declared.rule.Rule.{Rule}
 use Rattle.world_model.specs.declared.alias.AliasEnd.{AliasEnd}
+use Rattle.world_model.specs.declared.process.ProcessItem.{ProcessItem}
 use Rattle.world_model.proofs.Commuting.{stays}
 use Rattle.world_model.proofs.Meeting.{whole, whole_same}
 use Rattle.world_model.proofs.Outcomes.{touches}
@@ -47,6 +48,7 @@ among_if sorts false ks ls first second = second
 -- cells that meet are of one sort
 sort_of_whole : (c : Cell) → sort_of (whole c) ≡ sort_of c
 sort_of_whole (Row t k) = refl
+sort_of_whole (Holder n) = refl
 sort_of_whole c = refl
 
 pub sorts_same : (a b : Cell) → meet a b ≡ true → sort_of a ≡ sort_of b
@@ -124,6 +126,18 @@ gone_among : (b : Bool) (p q : Pid) (ref : Ref) → AllAmong (8 ∷ 7 ∷ 16 ∷
 gone_among true p q ref = tt
 gone_among false p q ref = (refl, tt)
 
+named_among : (v : Contents) (p : Pid) (name : Name) (ref : Ref) (alias : Option AliasEnd) (o : Option Pid) → AllAmong (8 ∷ 7 ∷ 16 ∷ 5 ∷ []) (named_line v p name ref alias o).changes
+named_among v p name ref alias None = (refl, (refl, (refl, gone_among false p p ref)))
+named_among v p name ref alias (Some q) = (refl, (refl, (refl, gone_among (v (Alive q)) p q ref)))
+
+ended_among : (ref : Ref) (o : Option Name) → AllAmong (16 ∷ []) (alias_goes ref o)
+ended_among ref None = (refl, tt)
+ended_among ref (Some name) = (refl, tt)
+
+info_among : (b : Bool) (v : Contents) (p q : Pid) (item : ProcessItem) → AllAmong [] (info_line b v p q item).changes
+info_among true v p q item = tt
+info_among false v p q item = tt
+
 watch_among : (p : Pid) (ref : Ref) (o : Option Pid) → AllAmong (8 ∷ 7 ∷ 16 ∷ 15 ∷ []) (watch_ends p ref o)
 watch_among p ref None = (refl, tt)
 watch_among p ref (Some q) = among_if (8 ∷ 7 ∷ 16 ∷ 15 ∷ []) (same_pid ref.pid p) _ _ (refl, (refl, (refl, tt))) (refl, (refl, tt))
@@ -149,6 +163,10 @@ removed_among : (f : Found) (o : Object) (k : Option Key) → AllAmong (14 ∷ [
 removed_among f o None = tt
 removed_among f o (Some k) = (refl, tt)
 
+altered_among : (f : Found) (key : Key) (changes : Option (List (ℕ × Meaning))) (there : List Object) → AllAmong (14 ∷ []) (alters f key changes there)
+altered_among f key changes [] = tt
+altered_among f key changes (object ∷ objects) = (refl, tt)
+
 heirs_among : (t : Ref) (hs : List Heir) → AllAmong (12 ∷ []) (map (HeirSet t) hs)
 heirs_among t [] = tt
 heirs_among t (h ∷ hs) = (refl, heirs_among t hs)
@@ -169,9 +187,8 @@ table_among v p f (DeleteObject None) = tt
 table_among v p f (DeleteObject (Some o)) = removed_among f o (part_at f.table.position o)
 table_among v p f DeleteAll = (refl, tt)
 table_among v p f (Take key) = (refl, tt)
-table_among v p f (UpdateCounter key increment) = (refl, tt)
-table_among v p f (UpdateElement key None) = tt
-table_among v p f (UpdateElement key (Some change)) = (refl, tt)
+table_among v p f (UpdateCounter key increment default) = (refl, tt)
+table_among v p f (UpdateElement key changes) = altered_among f key changes (v (Row f.ref key))
 table_among v p f (GiveAway None gift_) = tt
 table_among v p f (GiveAway (Some to) gift_) = (refl, (refl, (refl, (refl, tt))))
 table_among v p f (SetOptions None) = (refl, tt)
@@ -193,6 +210,8 @@ call_among v p (Send ToNobody m) = tt
 call_among v p (Send (ToProcess q) m) = sent_among (same_pid p q) v p q m
 call_among v p (Send (ToReference ref) m) = aliased_among v p ref (aliased (v (Guard ref))) m
 call_among v p (Send (ToName name) m) = holder_among v p (v (Holder name)) m
+call_among v p (Send (ToNode name) m) = holder_among v p (v (Holder name)) m
+call_among v p (Send ToAnotherNode m) = tt
 call_among v p (SendExit None reason) = tt
 call_among v p (SendExit (Some q) reason) = exited_among (same_pid p q) v p q reason
 call_among v p (Link None) = tt
@@ -204,6 +223,9 @@ call_among v p (Monitor false (Some q) alias) = tt
 call_among v p (Monitor true (Some q) None) = tt
 call_among v p (Monitor true (Some q) (Some alias)) =
     (refl, (refl, among_both (8 ∷ 7 ∷ 16 ∷ 5 ∷ []) (alias_begins p (next_ref v p) (alias_beside (same_pid p q) alias)) (gone_told (v (Alive q)) p q (next_ref v p)) (begins_among p (next_ref v p) (alias_beside (same_pid p q) alias)) (gone_among (v (Alive q)) p q (next_ref v p))))
+call_among v p (MonitorName false name alias) = tt
+call_among v p (MonitorName true name None) = tt
+call_among v p (MonitorName true name (Some alias)) = named_among v p name (next_ref v p) alias (v (Holder name))
 call_among v p (Demonitor None flushes) = tt
 call_among v p (Demonitor (Some ref) None) = tt
 call_among v p (Demonitor (Some ref) (Some flushes)) =
@@ -219,13 +241,17 @@ call_among v p (Unregister None) = tt
 call_among v p (Unregister (Some n)) = unregistered_among n (v (Holder n))
 call_among v p (WhereIs None) = tt
 call_among v p (WhereIs (Some n)) = tt
+call_among v p Registered = tt
 call_among v p (IsAlive None) = tt
 call_among v p (IsAlive (Some q)) = tt
+call_among v p (ProcessInfo None item) = tt
+call_among v p (ProcessInfo (Some q) None) = tt
+call_among v p (ProcessInfo (Some q) (Some item)) = info_among (same_pid p q) v p q item
 call_among v p MakeRef = tt
 call_among v p (MakeAlias None) = tt
 call_among v p (MakeAlias (Some end)) = (refl, tt)
 call_among v p (Unalias None) = tt
-call_among v p (Unalias (Some ref)) = among_if (16 ∷ []) (is_alias_of p (v (Guard ref))) _ [] (refl, tt) tt
+call_among v p (Unalias (Some ref)) = among_if (16 ∷ []) (is_alias_of p (v (Guard ref))) _ [] (ended_among ref (watch_name (v (Guard ref)))) tt
 call_among v p (StartTimer is_named time None m) = tt
 call_among v p (StartTimer is_named None (Some q) m) = tt
 call_among v p (StartTimer is_named (Some time) (Some q) m) = (refl, put_among (16 ∷ 5 ∷ []) (v (Alive q)) (next_child v p) q (Elapsed (next_ref v p) (timer_message is_named (next_ref v p) m)) refl)

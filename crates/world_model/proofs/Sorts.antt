@@ -1,8 +1,8 @@
 -- The sorts of cells, and which sorts a served call may write.
 use Rattle.std.specs.List.{list_any}
 use Rattle.std.specs.Prelude.{◌∷◌, ◌==◌, ℕ, List, Bool, []}
-use Rattle.world_model.specs.Calls.{Link, TableCall, Call, Insert, InsertNew, New, DeleteTable, DeleteKey, DeleteObject, DeleteAll, Take, UpdateCounter, UpdateElement, GiveAway, SetOptions, Spawn, Send, SendExit, Unlink, Monitor, Demonitor, Flag, Register, Unregister, WhereIs, IsAlive, MakeRef, MakeAlias, Unalias, StartTimer, CancelTimer, ReadTimer, OnTable, Misfit}
-use Rattle.world_model.specs.Cells.{Cell, Machine, Alive, Trap, Taken, Mailed, Front, Tail, Links, Watch, Watchers, Guard, Holder, NameOf, TableName, Table, Owned, Row, Rows}
+use Rattle.world_model.specs.Calls.{Link, TableCall, Call, Insert, InsertNew, New, DeleteTable, DeleteKey, DeleteObject, DeleteAll, Take, UpdateCounter, UpdateElement, GiveAway, SetOptions, Spawn, Send, SendExit, Unlink, Monitor, MonitorName, Demonitor, Flag, Register, Unregister, WhereIs, Registered, IsAlive, ProcessInfo, MakeRef, MakeAlias, Unalias, StartTimer, CancelTimer, ReadTimer, OnTable, Misfit}
+use Rattle.world_model.specs.Cells.{Cell, Machine, Alive, Trap, Taken, Mailed, Front, Tail, Links, Watch, Watchers, Guard, Holder, Holders, NameOf, TableName, Table, Owned, Row, Rows}
 
 abbrev pub sort_of : Cell → ℕ
 sort_of (Machine p) = 0
@@ -17,6 +17,7 @@ sort_of (Watchers p) = 7
 sort_of (Watch ref) = 8
 sort_of (Guard ref) = 16
 sort_of (Holder n) = 9
+sort_of Holders = 9
 sort_of (NameOf p) = 10
 sort_of (TableName n) = 11
 sort_of (Table t) = 12
@@ -35,8 +36,8 @@ table_sorts (DeleteKey key) = 14 ∷ []
 table_sorts (DeleteObject object) = 14 ∷ []
 table_sorts DeleteAll = 14 ∷ []
 table_sorts (Take key) = 14 ∷ []
-table_sorts (UpdateCounter key increment) = 14 ∷ []
-table_sorts (UpdateElement key change) = 14 ∷ []
+table_sorts (UpdateCounter key increment default) = 14 ∷ []
+table_sorts (UpdateElement key changes) = 14 ∷ []
 table_sorts (GiveAway to gift_) = 12 ∷ 13 ∷ 5 ∷ []
 table_sorts (SetOptions heirs) = 12 ∷ []
 table_sorts call = []
@@ -51,12 +52,15 @@ sorts_of (SendExit to reason) = 3 ∷ 5 ∷ []
 sorts_of (Link q) = 6 ∷ 5 ∷ []
 sorts_of (Unlink q) = 6 ∷ []
 sorts_of (Monitor is_process q alias) = 8 ∷ 7 ∷ 16 ∷ 5 ∷ []
+sorts_of (MonitorName is_process name alias) = 8 ∷ 7 ∷ 16 ∷ 5 ∷ []
 sorts_of (Demonitor ref flush) = 8 ∷ 7 ∷ 16 ∷ 15 ∷ []
 sorts_of (Flag b) = 2 ∷ []
 sorts_of (Register n q) = 9 ∷ 10 ∷ []
 sorts_of (Unregister n) = 9 ∷ 10 ∷ []
 sorts_of (WhereIs n) = []
+sorts_of Registered = []
 sorts_of (IsAlive q) = []
+sorts_of (ProcessInfo q item) = []
 sorts_of MakeRef = []
 sorts_of (MakeAlias end) = 16 ∷ []
 sorts_of (Unalias ref) = 16 ∷ []

@@ -1,26 +1,27 @@
 -- The law of frames of turns and deliveries.
 use Rattle.std.proofs.Common.{◌∙◌, ap, refl, sym}
 use Rattle.std.specs.List.{list_any}
-use Rattle.std.specs.Prelude.{◌&&◌, ◌∷◌, if◌then◌else◌, ◌≡◌, ◌++◌, Bool, true, false, Some, None, is_some, List, Option, [], option_map, drop}
+use Rattle.std.specs.Prelude.{◌&&◌, not, ◌∷◌, if◌then◌else◌, ◌≡◌, ◌++◌, Bool, true, false, Some, None, is_some, List, Option, [], option_map, drop}
 use Rattle.term_core.specs.Meaning.{Meaning}
 use Rattle.term_core.specs.declared.step.Step.{Step}
 use Rattle.term_core.specs.declared.step.Step.TheVariants.{Turn, Deliver}
 use Rattle.core_calls.specs.declared.call.CallKind.{CallKind}
 use Rattle.core_semantics.specs.Asked as answered
-use Rattle.world_model.specs.Calls.{Call, SendExit, IsAlive, call_of}
+use Rattle.world_model.specs.Calls.{Call, SendExit, IsAlive, ProcessInfo, call_of}
 use Rattle.world_model.specs.Cells.{Contents, Trap, Alive, Machine, Front, Links, Watch, Guard}
 use Rattle.world_model.specs.Changes.{TurnTaken, Change, after, SignalDelivered}
 use Rattle.world_model.specs.Ends.{reads_of_end}
 use Rattle.world_model.specs.Events.{Exit, Refusal, Served, EndedItself, Ended, Deed, RanAway, Signal, Message, LinkExit, Down, Guarded, Elapsed, Fate, Arrives, IsIgnored, IsDropped, Kills, Delivered}
 use Rattle.world_model.specs.Frames.{Sees, AgreeOn}
-use Rattle.world_model.specs.Guards.{is_alias_of, ends_by_reply, timer_in}
+use Rattle.world_model.specs.Guards.{is_alias_of, ends_by_reply, timer_in, watch_name}
 use Rattle.world_model.specs.Lines.{line}
 use Rattle.world_model.specs.Mailboxes.{mailbox_in, selected_of, reads_to_pick}
 use Rattle.world_model.specs.Names.{Pid, same_pid}
-use Rattle.world_model.specs.ProcessLines.{read_of_target}
+use Rattle.world_model.specs.ProcessLines.{info_line, read_of_target}
 use Rattle.world_model.specs.Requests.{Request, Calls, Receives, Ends, RunsAway, Program}
-use Rattle.world_model.specs.Signals.{reads_of_fate, trap_if, fate_of, exit_fate, link_fate, down_fate, guarded_fate, watch_if, reply_ends, goes_with, first_of, waiting_in}
+use Rattle.world_model.specs.Signals.{reads_of_fate, trap_if, fate_of, exit_fate, link_fate, down_fate, guarded_fate, watched_as, watch_if, reply_ends, goes_with, first_of, waiting_in}
 use Rattle.world_model.specs.Steps.{own_end, ends_itself, reads, must_wait, judged, reads_if_ended, ended_or, deed_asked, asked, reads_of_request, reads_of_call, received, runaway, reads_if_killed, changes_of_fate, deed_delivered, reads_of_signal}
+use Rattle.world_model.specs.declared.process.ProcessItem.{ProcessItem}
 use Rattle.world_model.proofs.CallFrames.{call_framed, selected_framed, reply_framed}
 use Rattle.world_model.proofs.EndFrames.{ends_framed, same_of, SameOn, same_after_both}
 use Rattle.world_model.proofs.Outcomes.{with_changes, Outcome, outcome}
@@ -38,9 +39,16 @@ ends_itself_framed v w p (SendExit (Some q) reason) agree = kills_framed v w p q
 ends_itself_framed v w p (SendExit None reason) agree = refl
 ends_itself_framed v w p call agree = refl
 
+told_framed : (v w : Contents) (p q : Pid) (item : ProcessItem) (b : Bool) → AgreeOn v w (info_line b v p q item).reads → (not b && (v (Alive q) && is_some (first_of (waiting_in v p q)))) ≡ (not b && (w (Alive q) && is_some (first_of (waiting_in w p q))))
+told_framed v w p q item true agree = refl
+told_framed v w p q item false agree = λ i. agree.0.0 i && is_some (first_of (drop (agree.1.0.0 i) (agree.1.1.0.0 i)))
+
 must_wait_framed : (v w : Contents) (p : Pid) (call : Call) → AgreeOn v w (line v p call).reads → must_wait v p call ≡ must_wait w p call
 must_wait_framed v w p (IsAlive (Some q)) agree = λ i. agree.0.0 i && is_some (first_of (drop (agree.1.0.0 i) (agree.1.1.0.0 i)))
 must_wait_framed v w p (IsAlive None) agree = refl
+must_wait_framed v w p (ProcessInfo None item) agree = refl
+must_wait_framed v w p (ProcessInfo (Some q) None) agree = refl
+must_wait_framed v w p (ProcessInfo (Some q) (Some item)) agree = told_framed v w p q item (same_pid p q) agree
 must_wait_framed v w p call agree = refl
 
 -- what a call results in
@@ -118,7 +126,7 @@ fate_framed : (v w : Contents) (s r : Pid) (x : Signal) → AgreeOn v w (reads_o
 fate_framed v w s r (Message m) agree = refl
 fate_framed v w s r (Exit reason) agree = λ i. exit_fate (agree.0.0 i) false s reason
 fate_framed v w s r (LinkExit reason) agree = link_framed v w s r reason (list_any (same_pid s) (v (Links r))) agree.1.1 ∙ ap (λ qs. link_fate (list_any (same_pid s) qs) (w (Trap r)) s reason) agree.0.0
-fate_framed v w s r (Down ref reason) agree = λ i. down_fate (agree.0.0 i) ref s reason
+fate_framed v w s r (Down ref reason) agree = λ i. down_fate (agree.0.0 i) ref (watched_as s (watch_name (agree.1.1.0.0 i))) reason
 fate_framed v w s r (Guarded ref m) agree = λ i. guarded_fate (is_alias_of r (agree.0.0 i)) m
 fate_framed v w s r (Elapsed ref m) agree = λ i. guarded_fate (is_some (timer_in (agree.0.0 i))) m
 

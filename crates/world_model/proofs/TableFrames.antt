@@ -4,25 +4,25 @@ use Rattle.std.specs.FinMap.{keys}
 use Rattle.std.specs.Option.{option_or}
 use Rattle.std.specs.Prelude.{Option, ◌||◌, if◌then◌else◌, ◌≡◌, ◌∷◌, ◌++◌, List, [], None, Some, map, length, option_map}
 use Rattle.term_core.specs.Meaning.{Meaning}
-use Rattle.world_model.specs.Calls.{TableArgument, ByName, ByReference, ByNothing, has_items, GiveAway, TableCall, Lookup, Member, LookupElement, First, Last, Next, Prev, ToList, Insert, InsertNew, DeleteTable, DeleteKey, DeleteObject, DeleteAll, Take, UpdateCounter, UpdateElement, SetOptions, Info}
+use Rattle.world_model.specs.Calls.{TableArgument, ByName, ByReference, ByNothing, has_items, GiveAway, TableCall, Lookup, Member, LookupElement, First, Last, Next, Prev, ToList, Insert, InsertNew, DeleteTable, DeleteKey, DeleteObject, DeleteAll, Take, UpdateCounter, UpdateElement, SetOptions, Info, InfoAll, known_items}
 use Rattle.world_model.specs.Cells.{Cell, Contents, TableName, Row}
 use Rattle.world_model.specs.Changes.{RowWritten}
 use Rattle.world_model.specs.TableAccess.{Found, find, meant, table_if, as_found, reads_of_find, unless_named, access_rule_at, is_table_argument}
 use Rattle.world_model.specs.Frames.{AgreeOn}
 use Rattle.world_model.specs.TableRules.{target_read, rows_of_found, found_line, refusal_by, table_reads, on_table_line}
-use Rattle.world_model.specs.Names.{Ref, Pid}
-use Rattle.world_model.specs.Objects.{one_present, element_rule, element_answer, keys_asked, update_rule, alters}
+use Rattle.world_model.specs.Names.{Name, Ref, Pid}
+use Rattle.world_model.specs.Objects.{one_present, element_rule, element_answer, keys_asked}
 use Rattle.world_model.specs.Ownership.{target_rule, gift_rule, gives_to}
 use Rattle.world_model.specs.ProcessLines.{CallLine, serves_unless}
 use Rattle.world_model.specs.Rows.{Key, all_objects, tuples, Clears}
 use Rattle.world_model.specs.Signals.{first_of}
 use Rattle.world_model.specs.Steps.{reads}
 use Rattle.world_model.specs.TableLines as lines
-use Rattle.world_model.specs.TableLines.{unless, table_line, gives, rows_read, counter_line, insert_new_line}
+use Rattle.world_model.specs.TableLines.{unless, table_line, gives, rows_read, counter_line, element_line, insert_new_line}
 use Rattle.world_model.specs.Tables as tables
-use Rattle.world_model.specs.Terms.{ok, number, truth}
-use Rattle.world_model.specs.RowFootprints.{cells_of}
-use Rattle.world_model.specs.Walks.{read_by_item, item_value, key_or_end, last_key, walk_rule, key_after, key_before, item_rule}
+use Rattle.world_model.specs.Terms.{atom, ok, number, truth, tuple, list_of}
+use Rattle.world_model.specs.RowFootprints.{EachRow, cells_of}
+use Rattle.world_model.specs.Walks.{read_by_item, item_value, item_pair, key_or_end, last_key, walk_rule, key_after, key_before, item_rule}
 use Rattle.world_model.specs.declared.rule.Rule.TheVariants.{BadTable}
 use Rattle.world_model.specs.declared.table.Item.{Item}
 use Rattle.world_model.specs.declared.table.Item.TheVariants as items
@@ -59,6 +59,15 @@ item_framed v w f (Some items.Size) agree = λ i. number (length (all_objects (a
 item_framed v w f (Some items.Name) agree = refl
 item_framed v w f item agree = refl
 
+-- all items are those of one size
+each_item_framed : (v w : Contents) (f : Found) (item : Item) → AgreeOn v w (cells_of f.ref EachRow) → item_value v f (Some item) ≡ item_value w f (Some item)
+each_item_framed v w f items.Size agree = λ i. number (length (all_objects (agree.0.0 i)))
+each_item_framed v w f item agree = refl
+
+pairs_framed : (v w : Contents) (f : Found) (xs : List (Name × Item)) → AgreeOn v w (cells_of f.ref EachRow) → map (item_pair v f) xs ≡ map (item_pair w f) xs
+pairs_framed v w f [] agree = refl
+pairs_framed v w f (x ∷ xs) agree = λ i. tuple (atom x.0 ∷ each_item_framed v w f x.1 agree i ∷ []) ∷ pairs_framed v w f xs agree i
+
 table_framed : (v w : Contents) (p : Pid) (f : Found) (call : TableCall) → AgreeOn v w (target_read call) → AgreeOn v w (cells_of f.ref (rows_read p f call)) → table_line v p f call ≡ table_line w p f call
 table_framed v w p f (Lookup key) to row = λ i. gives (tuples (row.0.0 i)) []
 table_framed v w p f (Member key) to row = λ i. gives (truth (has_items (row.0.0 i))) []
@@ -75,11 +84,12 @@ table_framed v w p f (DeleteKey key) to row = refl
 table_framed v w p f (DeleteObject object) to none = refl
 table_framed v w p f DeleteAll to none = refl
 table_framed v w p f (Take key) to row = λ i. gives (tuples (row.0.0 i)) (RowWritten f.ref key Clears ∷ [])
-table_framed v w p f (UpdateCounter key increment) to row = λ i. counter_line f key increment (row.0.0 i)
-table_framed v w p f (UpdateElement key change) to row = λ i. unless (update_rule f.table change (row.0.0 i)) (truth (has_items (row.0.0 i))) (alters f.ref key change)
+table_framed v w p f (UpdateCounter key increment default) to row = λ i. counter_line f key increment default (row.0.0 i)
+table_framed v w p f (UpdateElement key changes) to row = λ i. element_line f key changes (row.0.0 i)
 table_framed v w p f (GiveAway to gift) read none = λ i. unless (target_framed v w f.table to gift read i) ok (gives_to f to gift)
 table_framed v w p f (SetOptions heirs) to none = refl
 table_framed v w p f (Info item) to seen = λ i. unless (item_rule item) (item_framed v w f item seen i) []
+table_framed v w p f InfoAll to all = λ i. gives (list_of (pairs_framed v w f known_items all i)) []
 
 -- ---- with what is found or not
 

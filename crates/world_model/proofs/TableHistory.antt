@@ -1,7 +1,8 @@
 -- Each table and its rows, after every event.
-use Rattle.std.proofs.Common.{◌≡◌, Bool, true, false, ◌&&◌, List, [], ◌∷◌, map, ap, Option, Some, None, refl, sym, ◌∙◌, if◌then◌else◌}
+use Rattle.std.proofs.Common.{◌≡◌, ℕ, Bool, true, false, ◌&&◌, List, [], ◌∷◌, map, ap, Option, Some, None, refl, sym, ◌∙◌, if◌then◌else◌}
 use Rattle.std.specs.List.{list_any}
 use Rattle.std.specs.Prelude.{option_map}
+use Rattle.term_core.specs.Meaning.{Meaning}
 use Rattle.term_core.specs.declared.step.Step.{Step}
 use Rattle.term_core.specs.declared.step.Step.TheVariants.{Deliver, Turn}
 use Rattle.world_model.specs.Calls.{TableCall, Call, DeleteTable, GiveAway, SetOptions, New, OnTable, call_of, Insert, InsertNew, DeleteKey, DeleteObject, DeleteAll, Take, UpdateCounter, UpdateElement}
@@ -14,11 +15,11 @@ use Rattle.world_model.specs.TableRules.{found_line}
 use Rattle.world_model.specs.Lines.{line}
 use Rattle.world_model.specs.Names.{Ref, same_ref, Name, Pid, same_pid}
 use Rattle.world_model.specs.NewTables.{means_if, new_line, new_rule}
-use Rattle.world_model.specs.Objects.{stored_at, stores, removed_at, given, one_present, keys_asked, place_of, sum_of}
+use Rattle.world_model.specs.Objects.{stored_at, stores, removed_at, given, one_present, keys_asked, counter_object, alters}
 use Rattle.world_model.specs.OwnershipLaws.{table_left, table_passed, heir_named, row_passed}
 use Rattle.world_model.specs.Ownership.{heirs_set}
 use Rattle.world_model.specs.ProcessLines.{next_ref}
-use Rattle.world_model.specs.Rows.{stored, Object, Key, same_key, part_at, rewritten, Removes, altered}
+use Rattle.world_model.specs.Rows.{stored, Object, Key, same_key, part_at, with_parts, rewritten, Removes}
 use Rattle.world_model.specs.RowsLeft.{rows_left}
 use Rattle.world_model.specs.Signals.{goes_with}
 use Rattle.world_model.specs.Steps.{changes_of_fate, changes_by, runaway}
@@ -140,6 +141,10 @@ freed_row_other : (b : Bool) (name : Name) (w : Contents) (t : Ref) (k : Key) �
 freed_row_other true name w t k = refl
 freed_row_other false name w t k = refl
 
+altered_other : (f : Found) (key : Key) (changes : Option (List (ℕ × Meaning))) (there : List Object) (w : Contents) (t : Ref) (k : Key) → same_ref f.ref t ≡ false → after (alters f key changes there) w (Row t k) ≡ w (Row t k)
+altered_other f key changes [] w t k other = refl
+altered_other f key changes (object ∷ objects) w t k other = ap (λ b. if b && same_key key k then stored f.table.kind (with_parts (given changes) object) (w (Row t k)) else w (Row t k)) other
+
 rows_other : (v w : Contents) (p : Pid) (f : Found) (call : TableCall) (t : Ref) (k : Key) → same_ref f.ref t ≡ false → after (table_line v p f call).changes w (Row t k) ≡ w (Row t k)
 rows_other v w p f (Insert objects) t k other = stores_other f (given objects) w t k other
 rows_other v w p f (InsertNew objects) t k other = new_other f (given objects) w t k (one_present v f.ref (keys_asked p f objects)) other
@@ -149,9 +154,8 @@ rows_other v w p f (DeleteObject None) t k other = refl
 rows_other v w p f (DeleteObject (Some o)) t k other = removed_other f o (part_at f.table.position o) w t k other
 rows_other v w p f DeleteAll t k other = ap (λ b. if b then [] else w (Row t k)) other
 rows_other v w p f (Take key) t k other = ap (λ b. if b && same_key key k then [] else w (Row t k)) other
-rows_other v w p f (UpdateCounter key increment) t k other = ap (λ b. if b && same_key key k then altered (place_of f.table.position increment) (sum_of f.table increment (v (Row f.ref key))) (w (Row t k)) else w (Row t k)) other
-rows_other v w p f (UpdateElement key None) t k other = refl
-rows_other v w p f (UpdateElement key (Some change)) t k other = ap (λ b. if b && same_key key k then altered change.0 change.1 (w (Row t k)) else w (Row t k)) other
+rows_other v w p f (UpdateCounter key increment default) t k other = ap (λ b. if b && same_key key k then stored f.table.kind (counter_object f.table key increment default (v (Row f.ref key))) (w (Row t k)) else w (Row t k)) other
+rows_other v w p f (UpdateElement key changes) t k other = altered_other f key changes (v (Row f.ref key)) w t k other
 rows_other v w p f call t k other = stays (table_line v p f call).changes w (Row t k) (untouched_by (table_sorts call) (table_line v p f call).changes (Row t k) (table_among v p f call) refl)
 
 rows_told_at : (v w : Contents) (p : Pid) (f : Found) (call : TableCall) (t : Ref) (k : Key) (b : Bool) → same_ref f.ref t ≡ b → after (table_line v p f call).changes w (Row t k) ≡ (if b then rows_left v p f call k (w (Row t k)) else w (Row t k))

@@ -4,9 +4,9 @@ use Rattle.std.specs.Prelude.{option_map}
 use Rattle.term_core.specs.Meaning.{Meaning}
 use Rattle.term_core.specs.declared.step.Step.{Step}
 use Rattle.term_core.specs.declared.step.Step.TheVariants.{Turn, Deliver}
-use Rattle.world_model.specs.Calls.{Call, New, call_of, TableCall, DeleteTable, GiveAway, SetOptions, OnTable, Spawn, Monitor, SpawnWay, Alone, Linked, Watched, Demonitor}
-use Rattle.world_model.specs.Cells.{Table, Contents, meet, TableName, Watch, Watchers, Guard, Alive}
-use Rattle.world_model.specs.Changes.{is_of_watch, after, HeirSet, changed, TableNameCleared, TableRemoved, RowsCleared, OwnedRemoved, AliveCleared, MachineHalted, SignalDelivered, WatchCleared, WatcherRemoved, GuardUnwatched, CellTouched}
+use Rattle.world_model.specs.Calls.{Call, New, call_of, TableCall, DeleteTable, GiveAway, SetOptions, OnTable, Spawn, Monitor, MonitorName, SpawnWay, Alone, Linked, Watched, Demonitor}
+use Rattle.world_model.specs.Cells.{Table, Contents, meet, TableName, Watch, Watchers, Guard, Alive, Holder}
+use Rattle.world_model.specs.Changes.{is_of_watch, after, HeirSet, changed, TableNameCleared, TableRemoved, RowsCleared, OwnedRemoved, AliveCleared, MachineHalted, SignalDelivered, WatchCleared, WatcherRemoved, GuardSet, GuardUnwatched, CellTouched}
 use Rattle.world_model.specs.Ends.{ends}
 use Rattle.world_model.specs.Events.{Deed, Served, Signal, Message, Exit, LinkExit, Down, Guarded, Elapsed, Fate, Arrives, IsIgnored, IsDropped, Kills, Refused, Ended, EndedItself, Received, TimedOut, RanAway, Delivered}
 use Rattle.world_model.specs.Guards.{ends_by_reply}
@@ -18,7 +18,7 @@ use Rattle.world_model.specs.Names.{Pid, Ref, same_ref, Name, same_pid}
 use Rattle.world_model.specs.NewTables.{means_if, new_line, new_rule}
 use Rattle.world_model.specs.OwnershipLaws.{table_passed}
 use Rattle.world_model.specs.Ownership.{heirs_set}
-use Rattle.world_model.specs.ProcessLines.{next_ref, bound, gone_told, flushed, watch_ends, next_child, watch_begins, alias_begins, alias_beside}
+use Rattle.world_model.specs.ProcessLines.{next_ref, bound, gone_told, flushed, watch_ends, next_child, watch_begins, alias_begins, alias_beside, named_guard, named_line}
 use Rattle.world_model.specs.Signals.{goes_with, reply_ends}
 use Rattle.world_model.specs.Steps.{changes_of_fate, changes_by, runaway}
 use Rattle.world_model.specs.TableLines.{table_line}
@@ -126,6 +126,7 @@ table_none v (Deliver s r) deed t other is = is
 abbrev pub watches_by : Contents → Pid → Call → Ref → Bool
 watches_by v p (Spawn way origin) ref = same_ref (next_ref v p) ref
 watches_by v p (Monitor is_process whom alias) ref = same_ref (next_ref v p) ref
+watches_by v p (MonitorName is_process name alias) ref = same_ref (next_ref v p) ref
 watches_by v p call ref = false
 
 abbrev pub watches_in : Contents → Step → Deed → Ref → Bool
@@ -164,6 +165,12 @@ ended_none : (p : Pid) (u ref : Ref) (o : Option Pid) (w : Contents) → w (Watc
 ended_none p u ref None w is = either_way (same_ref u ref) (w (Watch ref)) ∙ is
 ended_none p u ref (Some q) w is = ends_by (same_pid u.pid p) q u ref w is
 
+named_none : (v w : Contents) (p : Pid) (name : Name) (u : Ref) (alias : Option AliasEnd) (o : Option Pid) (ref : Ref) → same_ref u ref ≡ false → w (Watch ref) ≡ None → after (named_line v p name u alias o).changes w (Watch ref) ≡ None
+named_none v w p name u alias None ref other is =
+    told_none false p p u ref (changed (GuardSet u (named_guard p name alias)) (after (watch_begins u p) w)) ∙ some_if_not (same_ref u ref) (Some p) (w (Watch ref)) other ∙ is
+named_none v w p name u alias (Some q) ref other is =
+    told_none (v (Alive q)) p q u ref (changed (GuardSet u (named_guard p name (alias_beside (same_pid p q) alias))) (after (watch_begins u q) w)) ∙ some_if_not (same_ref u ref) (Some q) (w (Watch ref)) other ∙ is
+
 call_unwatched : (v w : Contents) (p : Pid) (call : Call) (ref : Ref) → watches_by v p call ref ≡ false → w (Watch ref) ≡ None → after (line v p call).changes w (Watch ref) ≡ None
 call_unwatched v w p (Spawn way None) ref other is = is
 call_unwatched v w p (Spawn way (Some origin)) ref other is = bound_none way p (next_child v p) (next_ref v p) ref _ other is
@@ -175,6 +182,9 @@ call_unwatched v w p (Monitor true (Some q) (Some alias)) ref other is =
     let mid = after (watch_begins u q) w in
     let begun = alias_beside (same_pid p q) alias in
     after_both (alias_begins p u begun) (gone_told (v (Alive q)) p q u) mid (Watch ref) ∙ told_none (v (Alive q)) p q u ref (after (alias_begins p u begun) mid) ∙ begins_none p u begun ref mid ∙ some_if_not (same_ref u ref) (Some q) (w (Watch ref)) other ∙ is
+call_unwatched v w p (MonitorName false name alias) ref other is = is
+call_unwatched v w p (MonitorName true name None) ref other is = is
+call_unwatched v w p (MonitorName true name (Some alias)) ref other is = named_none v w p name (next_ref v p) alias (v (Holder name)) ref other is
 call_unwatched v w p (Demonitor None flushes) ref other is = is
 call_unwatched v w p (Demonitor (Some u) None) ref other is = is
 call_unwatched v w p (Demonitor (Some u) (Some flushes)) ref other is =

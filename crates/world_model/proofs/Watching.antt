@@ -4,16 +4,16 @@ use Rattle.term_core.specs.Meaning.{Meaning}
 use Rattle.term_core.specs.declared.step.Step.{Step}
 use Rattle.term_core.specs.declared.step.Step.TheVariants.{Turn, Deliver}
 use Rattle.core_semantics.specs.Asked as answered
-use Rattle.world_model.specs.Calls.{Call, Spawn, SpawnWay, Alone, Linked, Watched, Monitor, Demonitor, OnTable, TableCall, First, call_of}
-use Rattle.world_model.specs.Cells.{Contents, Alive, Watch, Watchers, Guard}
-use Rattle.world_model.specs.Changes.{MachineStarted, AliveSet, WatchCleared, WatcherRemoved, GuardCleared, GuardUnwatched, CellTouched, TurnTaken, SignalDelivered, after, changed, is_of_watch}
+use Rattle.world_model.specs.Calls.{Call, Spawn, SpawnWay, Alone, Linked, Watched, Monitor, MonitorName, Demonitor, OnTable, TableCall, First, call_of}
+use Rattle.world_model.specs.Cells.{Contents, Alive, Watch, Watchers, Guard, Holder}
+use Rattle.world_model.specs.Changes.{MachineStarted, AliveSet, WatchCleared, WatcherRemoved, GuardSet, GuardCleared, GuardUnwatched, CellTouched, TurnTaken, SignalDelivered, after, changed, is_of_watch}
 use Rattle.world_model.specs.Ends.{ends}
 use Rattle.world_model.specs.Events.{Deed, Served, Refused, EndedItself, Ended, Received, TimedOut, RanAway, Delivered, Signal, Message, Exit, LinkExit, Down, Guarded, Elapsed, Fate, Arrives, IsIgnored, IsDropped, Kills}
 use Rattle.world_model.specs.Guards.{ends_by_reply}
 use Rattle.world_model.specs.Lines.{line}
 use Rattle.world_model.specs.Mailboxes.{mailbox_in, selected_of}
-use Rattle.world_model.specs.Names.{Pid, Ref, same_pid, same_ref}
-use Rattle.world_model.specs.ProcessLines.{bound, flushed, gone_told, next_child, next_ref, watch_begins, watch_ends, alias_begins, alias_beside}
+use Rattle.world_model.specs.Names.{Name, Pid, Ref, same_pid, same_ref}
+use Rattle.world_model.specs.ProcessLines.{bound, flushed, gone_told, next_child, next_ref, watch_begins, watch_ends, alias_begins, alias_beside, named_guard, named_line}
 use Rattle.world_model.specs.Signals.{goes_with, reply_ends}
 use Rattle.world_model.specs.Steps.{changes_of_fate, changes_by, runaway}
 use Rattle.world_model.specs.ProcessHistory.{is_it}
@@ -101,6 +101,14 @@ no_watchers : (call : TableCall) (q : Pid) → is_among (table_sorts call) (Watc
 no_watchers First q = refl
 no_watchers call q = refl
 
+named_known : (v w : Contents) (p : Pid) (name : Name) (u : Ref) (alias : Option AliasEnd) (o : Option Pid) → w (Watch u) ≡ None → Known w → Known (after (named_line v p name u alias o).changes w)
+named_known v w p name u alias None none before_ =
+    let begun = changed (GuardSet u (named_guard p name alias)) (after (watch_begins u p) w) in
+    known_same (after (watch_begins u p) w) (after (named_line v p name u alias None).changes w) (λ x. gone_watchers false p p u begun x) (λ t. gone_watch false p p u begun t) (begins_known w u p none before_)
+named_known v w p name u alias (Some q) none before_ =
+    let begun = changed (GuardSet u (named_guard p name (alias_beside (same_pid p q) alias))) (after (watch_begins u q) w) in
+    known_same (after (watch_begins u q) w) (after (named_line v p name u alias (Some q)).changes w) (λ x. gone_watchers (v (Alive q)) p q u begun x) (λ t. gone_watch (v (Alive q)) p q u begun t) (begins_known w u q none before_)
+
 call_known : (v w : Contents) (p : Pid) (call : Call) → ((u : Ref) → w (Watch u) ≡ v (Watch u)) → w (Watch (next_ref v p)) ≡ None → AreListed w → Known w → Known (after (line v p call).changes w)
 call_known v w p (Spawn way None) same none sorted before_ = before_
 call_known v w p (Spawn way (Some origin)) same none sorted before_ = bound_known way p (next_child v p) (next_ref v p) (changed (AliveSet (next_child v p)) (changed (MachineStarted (next_child v p) origin) w)) none before_
@@ -116,6 +124,9 @@ call_known v w p (Monitor true (Some q) (Some alias)) same none sorted before_ =
     (λ x. after_both (alias_begins p u begun) told mid (Watchers x) ∙ gone_watchers (v (Alive q)) p q u (after (alias_begins p u begun) mid) x ∙ begins_watchers p u begun mid x)
     (λ t. after_both (alias_begins p u begun) told mid (Watch t) ∙ gone_watch (v (Alive q)) p q u (after (alias_begins p u begun) mid) t ∙ begins_watch p u begun mid t)
     (begins_known w u q none before_)
+call_known v w p (MonitorName false name alias) same none sorted before_ = before_
+call_known v w p (MonitorName true name None) same none sorted before_ = before_
+call_known v w p (MonitorName true name (Some alias)) same none sorted before_ = named_known v w p name (next_ref v p) alias (v (Holder name)) none before_
 call_known v w p (Demonitor None flushes) same none sorted before_ = before_
 call_known v w p (Demonitor (Some u) None) same none sorted before_ = before_
 call_known v w p (Demonitor (Some u) (Some flushes)) same none sorted before_ =

@@ -55,7 +55,7 @@ abbrev pub watch_it : Tree
 watch_it = ask_for kinds.Monitor (the_atom (codes "process") ∷ the (codes "C") ∷ [])
 
 abbrev pub LateWatchIsTold : Type 0
-LateWatchIsTold = EndsWith (asks watch_it) (Turn P ∷ Turn P_1 ∷ Turn P ∷ Deliver P_1 P ∷ []) (event (Deliver P_1 P) (Delivered (Down second_ref noproc) (Arrives (down_message second_ref P_1 noproc))))
+LateWatchIsTold = EndsWith (asks watch_it) (Turn P ∷ Turn P_1 ∷ Turn P ∷ Deliver P_1 P ∷ []) (event (Deliver P_1 P) (Delivered (Down second_ref noproc) (Arrives (down_message second_ref (process P_1) noproc))))
 
 -- ---- a watch ends before its process does, or before its signal comes, or when its message is there
 
@@ -81,7 +81,7 @@ abbrev pub FlushTakesTheMessage : Type 0
 FlushTakesTheMessage = Tells (λ h. mailbox h P) (watches_with (unwatch_with (the_atom (codes "flush") ∷ []))) told_first []
 
 abbrev pub MessageStays : Type 0
-MessageStays = Tells (λ h. mailbox h P) (watches_with (unwatch_with [])) told_first (down_message second_ref P_1 normal ∷ [])
+MessageStays = Tells (λ h. mailbox h P) (watches_with (unwatch_with [])) told_first (down_message second_ref (process P_1) normal ∷ [])
 
 -- ---- to oneself
 

@@ -1,6 +1,8 @@
 -- The cells of the world, and what each contains.
-use Rattle.std.specs.Prelude.{◌≡◌, ℕ, Bool, false, ◌&&◌, List, Option}
+use Rattle.std.specs.FinMap.{FinMap}
+use Rattle.std.specs.Prelude.{◌≡◌, ℕ, Bool, true, false, ◌&&◌, List, Option}
 use Rattle.term_core.specs.Meaning.{Meaning}
+use Rattle.term_core.specs.Order.{order_of_lists}
 use Rattle.core_semantics.specs.Asked.{Answered}
 use Rattle.world_model.specs.Events.{Signal}
 use Rattle.world_model.specs.Guards as guards
@@ -27,8 +29,9 @@ pub data Cell : Type 0 where
   Watch : (ref : Ref) → Cell
   -- what lets messages in that are sent to a reference
   Guard : (ref : Ref) → Cell
-  -- who holds a name, and which name a process has
+  -- who holds a name, who holds any at once, and which name a process has
   Holder : (name : Name) → Cell
+  Holders : Cell
   NameOf : (p : Pid) → Cell
   -- which table a name means, the table itself, the objects under one of its keys, and all its rows at once
   TableName : (name : Name) → Cell
@@ -52,6 +55,9 @@ meet (Watchers p) (Watchers q) = same_pid p q
 meet (Watch a) (Watch b) = same_ref a b
 meet (Guard a) (Guard b) = same_ref a b
 meet (Holder n) (Holder m) = same_name n m
+meet (Holder n) Holders = true
+meet Holders (Holder n) = true
+meet Holders Holders = true
 meet (NameOf p) (NameOf q) = same_pid p q
 meet (TableName n) (TableName m) = same_name n m
 meet (Table t) (Table u) = same_ref t u
@@ -87,6 +93,8 @@ Content (Watchers p) = List Ref
 Content (Watch ref) = Option Pid
 Content (Guard ref) = Option guards.Guard
 Content (Holder name) = Option Pid
+-- each name that has a holder, with that, in the order of names
+Content Holders = FinMap order_of_lists Pid
 Content (NameOf p) = Option Name
 Content (TableName name) = Option Ref
 Content (Table t) = Option tables.Table

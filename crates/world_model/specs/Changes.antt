@@ -1,12 +1,12 @@
 -- What an event may change: each change is of one cell.
-use Rattle.std.specs.FinMap.{empty}
+use Rattle.std.specs.FinMap.{empty, insert, remove}
 use Rattle.std.specs.Prelude.{◌+◌, Bool, true, false, List, [], ◌∷◌, ◌++◌, Option, Some, None, option_map, option_and_then, if◌then◌else◌}
 use Rattle.std.specs.declared.cmp.Ordering.{Ordering}
 use Rattle.std.specs.declared.cmp.Ordering.TheVariants.{Less, Equal, Greater}
 use Rattle.term_core.specs.Meaning.{Meaning}
 use Rattle.term_core.specs.Order.{order_of_lists}
 use Rattle.core_semantics.specs.Asked.{Answered}
-use Rattle.world_model.specs.Cells.{Table, Rows, Row, Cell, Machine, Alive, Trap, Taken, Mailed, Front, Tail, Links, Watchers, Watch, Guard, Holder, NameOf, TableName, Owned, meet, Content, Contents}
+use Rattle.world_model.specs.Cells.{Table, Rows, Row, Cell, Machine, Alive, Trap, Taken, Mailed, Front, Tail, Links, Watchers, Watch, Guard, Holder, Holders, NameOf, TableName, Owned, meet, Content, Contents}
 use Rattle.world_model.specs.Events.{Signal}
 use Rattle.world_model.specs.Guards as guards
 use Rattle.world_model.specs.Guards.{unwatched}
@@ -152,6 +152,8 @@ renewed (GuardCleared a) (Guard b) before = None
 renewed (GuardUnwatched a) (Guard b) before = option_and_then unwatched before
 renewed (HolderSet n holder) (Holder m) before = Some holder
 renewed (HolderCleared n) (Holder m) before = None
+renewed (HolderSet n holder) Holders before = insert before n holder
+renewed (HolderCleared n) Holders before = remove before n
 renewed (NameSet q name) (NameOf p) before = Some name
 renewed (NameCleared q) (NameOf p) before = None
 renewed (RowWritten u l change) (Row t key) before = rewritten change before

@@ -9,7 +9,7 @@ use Rattle.world_model.specs.Names.{Pid, Ref, Name}
 use Rattle.world_model.specs.Requests.{Program}
 use Rattle.world_model.specs.Rows.{Key}
 use Rattle.world_model.specs.Run.{next_event}
-use Rattle.world_model.specs.World.{table, alive, turns, answers, traps, waiting, mailbox, linked, watched, guarded, holder, found, owner, settings, heir, rows, all_rows, rule_of, refusal_of, answer_of, contents}
+use Rattle.world_model.specs.World.{table, alive, turns, answers, traps, waiting, mailbox, linked, watched, guarded, holder, holders, found, owner, settings, heir, rows, all_rows, rule_of, refusal_of, answer_of, contents}
 
 -- two histories say the same of each process, each channel, each name and each table
 pub record TellTheSame (h g : History) : Type 0 where
@@ -23,6 +23,7 @@ pub record TellTheSame (h g : History) : Type 0 where
   pub watched : (ref : Ref) → watched h ref ≡ watched g ref
   pub guarded : (ref : Ref) → guarded h ref ≡ guarded g ref
   pub holder : (name : Name) → holder h name ≡ holder g name
+  pub holders : holders h ≡ holders g
   pub found : (argument : TableArgument) → found h argument ≡ found g argument
   pub table : (t : Ref) → table h t ≡ table g t
   pub owner : (t : Ref) → owner h t ≡ owner g t

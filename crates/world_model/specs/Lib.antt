@@ -54,3 +54,4 @@ pub mod LeftExamples
 pub mod RowExamples
 pub mod BondExamples
 pub mod GuardExamples
+pub mod NameExamples

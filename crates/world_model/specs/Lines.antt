@@ -1,17 +1,18 @@
 -- The calls line by line: why each is refused, and where it is not its answer and its changes; and the cells that it reads (Erlang manual, module `erlang`; `new/2` and the calls of tables module `ets`).
-use Rattle.std.specs.Prelude.{◌∷◌, None, [], Some, false, true, codes}
-use Rattle.world_model.specs.Calls.{Link, New, Call, Spawn, Send, ToNobody, ToProcess, ToName, ToReference, SendExit, Unlink, Monitor, Demonitor, Flag, Register, Unregister, WhereIs, IsAlive, MakeRef, MakeAlias, Unalias, StartTimer, CancelTimer, ReadTimer, OnTable, Misfit}
-use Rattle.world_model.specs.Cells.{Alive, Contents, Machine, Holder, Links, Trap, Watch, Guard, NameOf, Front, Tail, TableName}
+use Rattle.std.specs.FinMap.{keys}
+use Rattle.std.specs.Prelude.{◌∷◌, None, [], Some, false, map, true, codes}
+use Rattle.world_model.specs.Calls.{Link, New, Call, Spawn, Send, ToNobody, ToProcess, ToName, ToReference, ToNode, ToAnotherNode, SendExit, Unlink, Monitor, MonitorName, Demonitor, Flag, Register, Unregister, WhereIs, Registered, IsAlive, ProcessInfo, MakeRef, MakeAlias, Unalias, StartTimer, CancelTimer, ReadTimer, OnTable, Misfit}
+use Rattle.world_model.specs.Cells.{Holders, Alive, Contents, Machine, Holder, Links, Trap, Watch, Guard, NameOf, Front, Tail, TableName}
 use Rattle.world_model.specs.Changes.{TrapSet, GuardSet, is_of_watch}
 use Rattle.world_model.specs.Events.{ByRule}
-use Rattle.world_model.specs.Guards.{Alias, aliased, is_alias_of, timer_in}
+use Rattle.world_model.specs.Guards.{Alias, aliased, is_alias_of, timer_in, watch_name}
 use Rattle.world_model.specs.TableRules.{on_table_line}
 use Rattle.world_model.specs.Mailboxes.{mailbox_in, selected_of}
 use Rattle.world_model.specs.Names.{Pid, same_pid}
 use Rattle.world_model.specs.NewTables.{new_line, new_rule}
-use Rattle.world_model.specs.ProcessLines.{CallLine, badarg, spawn_line, serves, read_of_target, sent, serves_unless, unless_held, holder_read, sent_to_holder, exited, link_line, link_way, monitor_line, alias_beside, ref_of_turn, demonitor_reads, demonitor_line, register_line, unregister_line, send_line, unalias_line, timer_line, timer_reads, timer_ends, time_left, told_left}
+use Rattle.world_model.specs.ProcessLines.{CallLine, badarg, spawn_line, serves, read_of_target, sent, serves_unless, unless_held, holder_read, sent_to_holder, exited, link_line, link_way, monitor_line, named_line, info_line, alias_beside, ref_of_turn, demonitor_reads, demonitor_line, register_line, unregister_line, send_line, unalias_line, timer_line, timer_reads, timer_ends, time_left, told_left}
 use Rattle.world_model.specs.Signals.{pair_goes}
-use Rattle.world_model.specs.Terms.{ok, truth, process_or, reference}
+use Rattle.world_model.specs.Terms.{atom, list_of, ok, truth, process_or, reference}
 use Rattle.world_model.specs.declared.rule.Rule.TheVariants.{BadName}
 
 -- a spawn needs a module, a function and a proper list of arguments; what is no exported function ends at once
@@ -24,6 +25,8 @@ line v p (Send ToNobody message) = badarg []
 line v p (Send (ToProcess q) message) = serves (read_of_target (same_pid p q) p q) message (sent (same_pid p q) v p q message)
 line v p (Send (ToReference ref) message) = send_line v p ref (aliased (v (Guard ref))) message
 line v p (Send (ToName name) message) = serves_unless (unless_held (v (Holder name))) (Holder name ∷ holder_read p (v (Holder name))) message (sent_to_holder v p (v (Holder name)) message)
+line v p (Send (ToNode name) message) = serves (Holder name ∷ holder_read p (v (Holder name))) message (sent_to_holder v p (v (Holder name)) message)
+line v p (Send ToAnotherNode message) = serves [] message []
 -- exit/2
 line v p (SendExit None reason) = badarg []
 line v p (SendExit (Some q) reason) = serves (read_of_target (same_pid p q) p q) ok (exited (same_pid p q) v p q reason)
@@ -38,6 +41,10 @@ line v p (Monitor is_process None alias) = badarg []
 line v p (Monitor false (Some q) alias) = badarg (Alive q ∷ [])
 line v p (Monitor true (Some q) None) = badarg (Alive q ∷ [])
 line v p (Monitor true (Some q) (Some alias)) = monitor_line p q (ref_of_turn p (v (Machine p))) (v (Alive q)) (alias_beside (same_pid p q) alias)
+-- monitor/2, monitor/3 of a name
+line v p (MonitorName false name alias) = badarg []
+line v p (MonitorName true name None) = badarg []
+line v p (MonitorName true name (Some alias)) = named_line v p name (ref_of_turn p (v (Machine p))) alias (v (Holder name))
 -- demonitor/1, demonitor/2
 line v p (Demonitor None flushes) = badarg []
 line v p (Demonitor (Some ref) None) = badarg (demonitor_reads ref (v (Watch ref)))
@@ -56,9 +63,15 @@ line v p (Unregister (Some name)) = unregister_line name (v (Holder name))
 -- whereis/1
 line v p (WhereIs None) = badarg []
 line v p (WhereIs (Some name)) = serves (Holder name ∷ []) (process_or (codes "undefined") (v (Holder name))) []
+-- registered/0
+line v p Registered = serves (Holders ∷ []) (list_of (map atom (keys (v Holders)))) []
 -- is_process_alive/1, which waits as said with its turn
 line v p (IsAlive None) = badarg []
 line v p (IsAlive (Some q)) = serves (Alive q ∷ Front p q ∷ Tail p q ∷ []) (truth (v (Alive q))) []
+-- process_info/2, which waits as said with its turn
+line v p (ProcessInfo None item) = badarg []
+line v p (ProcessInfo (Some q) None) = badarg []
+line v p (ProcessInfo (Some q) (Some item)) = info_line (same_pid p q) v p q item
 -- make_ref/0
 line v p MakeRef = serves [] (reference (ref_of_turn p (v (Machine p)))) []
 -- alias/0, alias/1
@@ -66,7 +79,7 @@ line v p (MakeAlias None) = badarg []
 line v p (MakeAlias (Some end)) = serves [] (reference (ref_of_turn p (v (Machine p)))) (GuardSet (ref_of_turn p (v (Machine p))) (Alias p end) ∷ [])
 -- unalias/1
 line v p (Unalias None) = badarg []
-line v p (Unalias (Some ref)) = unalias_line ref (is_alias_of p (v (Guard ref)))
+line v p (Unalias (Some ref)) = unalias_line ref (is_alias_of p (v (Guard ref))) (watch_name (v (Guard ref)))
 -- start_timer/3, send_after/3
 line v p (StartTimer is_named time None message) = badarg []
 line v p (StartTimer is_named None (Some q) message) = badarg (Alive q ∷ [])

@@ -3,7 +3,7 @@ use Rattle.std.specs.Prelude.{◌&&◌, ◌++◌, if◌then◌else◌, ◌∷◌
 use Rattle.term_core.specs.Meaning.{Meaning}
 use Rattle.term_core.specs.declared.step.Step.{Step}
 use Rattle.term_core.specs.declared.step.Step.TheVariants.{Turn, Deliver}
-use Rattle.world_model.specs.Calls.{Call, Send, ToProcess, ToName, SendExit, Demonitor, call_of}
+use Rattle.world_model.specs.Calls.{Call, Send, ToProcess, ToName, ToNode, SendExit, Demonitor, call_of}
 use Rattle.world_model.specs.Changes.{without_first, is_of_watch, Change, SignalPut}
 use Rattle.world_model.specs.Events.{History, Deed, Served, Received, Delivered, Arrives, Event, Signal}
 use Rattle.world_model.specs.Names.{Pid, same_pid, same_term}
@@ -28,6 +28,7 @@ mailed_to_holder (Some to) p message q there = mailed_if (same_pid p to) p messa
 abbrev pub mailed_by_call : History → Pid → Call → Pid → List Meaning → List Meaning
 mailed_by_call h p (Send (ToProcess to) message) q there = mailed_if (same_pid p to) p message q there
 mailed_by_call h p (Send (ToName name) message) q there = mailed_to_holder (holder h name) p message q there
+mailed_by_call h p (Send (ToNode name) message) q there = mailed_to_holder (holder h name) p message q there
 mailed_by_call h p (SendExit (Some to) reason) q there = mailed_if (same_pid p to) p (exit_message p reason) q there
 mailed_by_call h p (Demonitor (Some ref) (Some true)) q there = if same_pid p q then without_first (is_of_watch ref) there else there
 mailed_by_call h p call q there = there

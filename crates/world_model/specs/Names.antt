@@ -1,6 +1,6 @@
 -- Names: of processes, of what they create, and those that programs give; and when two are the same.
 use Rattle.std.specs.Ordering.{eq_by_cmp}
-use Rattle.std.specs.Prelude.{◌≡◌, ◌∷◌, ◌⊎◌, ℕ, Bool, List, bytes_eq, ◌==◌, ◌&&◌, []}
+use Rattle.std.specs.Prelude.{◌≡◌, ◌∷◌, ◌⊎◌, ℕ, Bool, List, bytes_eq, ◌==◌, ◌&&◌, [], codes}
 use Rattle.term_core.specs.Meaning.{Meaning}
 use Rattle.term_core.specs.Order.{order_of_terms}
 use Rattle.term_core.specs.StepOrder.{order_of_reference_ids}
@@ -22,6 +22,10 @@ ref_of id = record { pid = id.0; number = id.1 }
 -- a name that a program gives: the text of an atom
 abbrev pub Name : Type 0
 Name = List ℕ
+
+-- the node of the world, which is alone (Erlang manual, `node/0`)
+abbrev pub own_node : Name
+own_node = codes "nonode@nohost"
 
 abbrev pub same_pid : Pid → Pid → Bool
 same_pid p q = bytes_eq p q

@@ -3,7 +3,7 @@ use Rattle.std.specs.Prelude.{◌≡◌, ◌∷◌, ◌++◌, ◌&&◌, if◌the
 use Rattle.term_core.specs.Meaning.{Meaning}
 use Rattle.term_core.specs.declared.step.Step.{Step}
 use Rattle.term_core.specs.declared.step.Step.TheVariants.{Turn, Deliver}
-use Rattle.world_model.specs.Calls.{Call, Send, ToProcess, ToName, ToReference, SendExit, Link, Monitor, StartTimer, OnTable, GiveAway, call_of}
+use Rattle.world_model.specs.Calls.{Call, Send, ToProcess, ToName, ToReference, ToNode, SendExit, Link, Monitor, MonitorName, StartTimer, OnTable, GiveAway, call_of}
 use Rattle.world_model.specs.Cells.{Contents, Alive, Owned, Table, Links, Watchers}
 use Rattle.world_model.specs.Changes.{after}
 use Rattle.world_model.specs.Events.{History, Event, Deed, Served, EndedItself, Ended, RanAway, Delivered, Kills, Signal, Message, Exit, LinkExit, Down, Guarded, Elapsed}
@@ -49,6 +49,11 @@ put_by_link way p q s r = []
 abbrev pub put_by_watch : Bool → Pid → Pid → Ref → Pid → Pid → List Signal
 put_by_watch lives p q ref s r = if lives then [] else on_way q p (Down ref noproc) s r
 
+-- of a name the process that has it, or where nobody has it the caller itself
+abbrev pub put_by_named : History → Pid → Option Pid → Ref → Pid → Pid → List Signal
+put_by_named h p None ref s r = put_by_watch false p p ref s r
+put_by_named h p (Some q) ref s r = put_by_watch (alive h q) p q ref s r
+
 -- the new owner of a table is informed
 abbrev pub put_by_gift : Option Found → Pid → Meaning → Pid → Pid → List Signal
 put_by_gift None to gift s r = []
@@ -57,10 +62,12 @@ put_by_gift (Some f) to gift s r = on_way f.table.owner to (Message (transfer_me
 abbrev pub put_by_call : History → Pid → Call → Pid → Pid → List Signal
 put_by_call h p (Send (ToProcess to) message) s r = put_for h p to (Message message) s r
 put_by_call h p (Send (ToName name) message) s r = put_for_holder h p (holder h name) (Message message) s r
+put_by_call h p (Send (ToNode name) message) s r = put_for_holder h p (holder h name) (Message message) s r
 put_by_call h p (Send (ToReference ref) message) s r = put_for_alias h p (aliased (guarded h ref)) (Guarded ref message) s r
 put_by_call h p (SendExit (Some to) reason) s r = put_for h p to (Exit reason) s r
 put_by_call h p (Link (Some q)) s r = put_by_link (link_way p q (linked h p) (alive h q) (traps h p)) p q s r
 put_by_call h p (Monitor true (Some q) (Some alias)) s r = put_by_watch (alive h q) p q (next_ref (contents h) p) s r
+put_by_call h p (MonitorName true name (Some alias)) s r = put_by_named h p (holder h name) (next_ref (contents h) p) s r
 put_by_call h p (StartTimer is_named (Some time) (Some to) message) s r = if_lives (alive h to) (on_way (next_child (contents h) p) to (Elapsed (next_ref (contents h) p) (timer_message is_named (next_ref (contents h) p) message)) s r)
 put_by_call h p (OnTable argument (GiveAway (Some to) gift)) s r = put_by_gift (found h argument) to gift s r
 put_by_call h p call s r = []

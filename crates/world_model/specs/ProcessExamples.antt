@@ -57,8 +57,8 @@ abbrev pub EndIsTold : Type 0
 EndIsTold = Happens watches (Turn P ∷ Turn P_1 ∷ Deliver P_1 P ∷ Turn P ∷ []) (
     serves_it P kinds.SpawnMonitor (spawned (codes "c") []) (tuple (process P_1 ∷ R_1 ∷ []))
     ∷ ends_it P_1 normal
-    ∷ event (Deliver P_1 P) (Delivered (Down first_ref normal) (Arrives (down_message first_ref P_1 normal)))
-    ∷ event (Turn P) (Received (down_message first_ref P_1 normal))
+    ∷ event (Deliver P_1 P) (Delivered (Down first_ref normal) (Arrives (down_message first_ref (process P_1) normal)))
+    ∷ event (Turn P) (Received (down_message first_ref (process P_1) normal))
     ∷ [])
 
 -- ---- a name, and a message to its holder, which is the sender

@@ -1,19 +1,22 @@
 -- What a line of the calls is, and the parts of the lines of processes, each of the values that it reads (Erlang manual, module `erlang`).
 use Rattle.std.specs.List.{list_any}
-use Rattle.std.specs.Prelude.{List, ◌++◌, if◌then◌else◌, ◌+◌, ◌&&◌, ◌∷◌, ◌||◌, Option, None, Some, [], ℕ, ℤ, option_map, not, Bool, codes, true, false, is_some}
-use Rattle.term_core.specs.Meaning.{Meaning, Int}
+use Rattle.std.specs.Prelude.{List, ◌++◌, if◌then◌else◌, ◌+◌, ◌&&◌, ◌∷◌, ◌||◌, Option, None, Some, [], ℕ, ℤ, length, option_map, not, Bool, codes, true, false, is_some}
+use Rattle.term_core.specs.Meaning.{Meaning, Int, Nil}
 use Rattle.world_model.specs.Calls.{SpawnWay, Alone, Linked, Watched}
-use Rattle.world_model.specs.Cells.{Cell, Watch, Guard, Course, Contents, Machine, Trap, Alive, Links, Watchers, Holder, NameOf}
+use Rattle.world_model.specs.Cells.{Cell, Watch, Guard, Course, Contents, Machine, Trap, Alive, Links, Watchers, Holder, NameOf, Taken, Mailed, Front, Tail}
 use Rattle.world_model.specs.Changes.{Change, PartnerAdded, WatchSet, WatcherAdded, MachineStarted, AliveSet, MessageAdded, CellTouched, SignalPut, WatchCleared, WatcherRemoved, GuardSet, GuardCleared, GuardUnwatched, HolderSet, NameSet, HolderCleared, NameCleared}
 use Rattle.world_model.specs.Ends.{alive_if}
 use Rattle.world_model.specs.Events.{Refusal, Badarg, Message, Exit, NoProcess, LinkExit, Down, Guarded, Elapsed}
-use Rattle.world_model.specs.Guards.{Alias, Timer}
-use Rattle.world_model.specs.Mailboxes.{picked, reads_to_pick}
+use Rattle.world_model.specs.Guards as guards
+use Rattle.world_model.specs.Guards.{Alias, Timer, NamedWatch, NamedAlias}
+use Rattle.world_model.specs.Mailboxes.{mailbox_in, picked, reads_to_pick}
 use Rattle.world_model.specs.Names.{Name, Ref, Pid, same_pid, same_name}
 use Rattle.world_model.specs.Requests.{Origin}
 use Rattle.world_model.specs.Signals.{put_if, exit_message}
-use Rattle.world_model.specs.Terms.{process, ok, tuple, reference, atom, truth}
+use Rattle.world_model.specs.Terms.{process, ok, tuple, reference, atom, number, truth}
 use Rattle.world_model.specs.declared.alias.AliasEnd.{AliasEnd}
+use Rattle.world_model.specs.declared.process.ProcessItem.{ProcessItem}
+use Rattle.world_model.specs.declared.process.ProcessItem.TheVariants.{RegisteredName, QueueLength}
 
 pub record CallLine : Type 0 where
   pub refusal : Option Refusal
@@ -148,6 +151,19 @@ alias_begins p ref (Some end) = GuardSet ref (Alias p end) ∷ []
 abbrev pub monitor_line : Pid → Pid → Ref → Bool → Option AliasEnd → CallLine
 monitor_line p q ref lives alias = serves (Alive q ∷ []) (reference ref) (watch_begins ref q ++ (alias_begins p ref alias ++ gone_told lives p q ref))
 
+-- of a watch by name the name is kept, and an alias that begins with it
+abbrev pub named_guard : Pid → Name → Option AliasEnd → guards.Guard
+named_guard p name None = NamedWatch name
+named_guard p name (Some end) = NamedAlias name p end
+
+abbrev pub named_begins : Pid → Name → Ref → Pid → Bool → Option AliasEnd → List Change
+named_begins p name ref q lives alias = watch_begins ref q ++ (GuardSet ref (named_guard p name alias) ∷ gone_told lives p q ref)
+
+-- a watch by name is one of the process that has it then; where nobody has it, it is one of the caller, from which its message comes at once
+abbrev pub named_line : Contents → Pid → Name → Ref → Option AliasEnd → Option Pid → CallLine
+named_line v p name ref alias None = serves (Holder name ∷ []) (reference ref) (named_begins p name ref p false alias)
+named_line v p name ref alias (Some q) = serves (Holder name ∷ Alive q ∷ []) (reference ref) (named_begins p name ref q (v (Alive q)) (alias_beside (same_pid p q) alias))
+
 -- a watch ends if the caller made it
 abbrev pub watch_ends : Pid → Ref → Option Pid → List Change
 watch_ends p ref None = CellTouched (Watch ref) ∷ []
@@ -175,8 +191,13 @@ abbrev pub send_line : Contents → Pid → Ref → Option Pid → Meaning → C
 send_line v p ref None message = serves (Guard ref ∷ []) message []
 send_line v p ref (Some q) message = serves (Guard ref ∷ Alive q ∷ []) message (put_if (v (Alive q)) p q (Guarded ref message))
 
-abbrev pub unalias_line : Ref → Bool → CallLine
-unalias_line ref stands = serves (Guard ref ∷ []) (truth stands) (if stands then GuardCleared ref ∷ [] else [])
+-- an alias ends alone: the name of its watch stays
+abbrev pub alias_goes : Ref → Option Name → List Change
+alias_goes ref None = GuardCleared ref ∷ []
+alias_goes ref (Some name) = GuardSet ref (NamedWatch name) ∷ []
+
+abbrev pub unalias_line : Ref → Bool → Option Name → CallLine
+unalias_line ref stands name = serves (Guard ref ∷ []) (truth stands) (if stands then alias_goes ref name else [])
 
 -- ---- timers
 
@@ -219,3 +240,26 @@ register_line name q lives holder other = serves_unless (register_refusal name l
 abbrev pub unregister_line : Name → Option Pid → CallLine
 unregister_line name None = badarg (Holder name ∷ [])
 unregister_line name (Some q) = serves (Holder name ∷ Alive q ∷ []) ok (HolderCleared name ∷ NameCleared q ∷ [])
+
+-- ---- what is told of a process
+
+abbrev pub item_reads : Pid → ProcessItem → List Cell
+item_reads q RegisteredName = NameOf q ∷ []
+item_reads q QueueLength = Taken q ∷ Mailed q ∷ []
+
+-- a process without a name has no pair
+abbrev pub name_told : Option Name → Meaning
+name_told None = Nil
+name_told (Some name) = tuple (atom (codes "registered_name") ∷ atom name ∷ [])
+
+abbrev pub item_told : Contents → Pid → ProcessItem → Meaning
+item_told v q RegisteredName = name_told (v (NameOf q))
+item_told v q QueueLength = tuple (atom (codes "message_queue_len") ∷ number (length (mailbox_in v q)) ∷ [])
+
+abbrev pub undefined : Meaning
+undefined = atom (codes "undefined")
+
+-- of oneself at once; of another as by a signal to it, so that the caller's own signals to it come before
+abbrev pub info_line : Bool → Contents → Pid → Pid → ProcessItem → CallLine
+info_line true v p q item = serves (item_reads p item) (item_told v p item) []
+info_line false v p q item = serves (Alive q ∷ Front p q ∷ Tail p q ∷ item_reads q item) (if v (Alive q) then item_told v q item else undefined) []

@@ -1,16 +1,17 @@
 -- What calls of tables answer of their rows, in small modules.
-use Rattle.std.specs.Prelude.{◌∷◌, ℤ, pos, List, [], Some, false, codes}
-use Rattle.term_core.specs.Meaning.{Meaning}
+use Rattle.std.specs.Prelude.{◌∷◌, ℕ, ℤ, pos, negsuc, List, [], Some, false, codes}
+use Rattle.term_core.specs.Meaning.{Meaning, Int}
 use Rattle.term_core.specs.declared.step.Step.TheVariants.{Turn}
+use Rattle.core_tree.specs.Expression as trees
 use Rattle.core_tree.specs.Syntax.{ModuleTree, Tree}
 use Rattle.core_calls.specs.declared.call.CallKind.{CallKind}
 use Rattle.core_calls.specs.declared.call.CallKind.TheVariants as kinds
 use Rattle.world_model.specs.ExampleRuns.{P, R_1, serves_it, refuses_it, EndsWith}
-use Rattle.world_model.specs.Modules.{the, the_atom, the_number, the_tuple, the_list, the_table, ask_for, in_turn, with_result, module_of, main}
+use Rattle.world_model.specs.Modules.{the, mention, the_atom, the_number, the_tuple, the_list, the_table, ask_for, in_turn, with_result, module_of, main}
 use Rattle.world_model.specs.Names.{Name}
 use Rattle.world_model.specs.Terms.{atom, number, list_of, ok, truth, tuple}
 use Rattle.world_model.specs.declared.rule.Rule.{Rule}
-use Rattle.world_model.specs.declared.rule.Rule.TheVariants.{BadPosition, ShortObject, CounterRange, BagRefused}
+use Rattle.world_model.specs.declared.rule.Rule.TheVariants.{BadPosition, NotObject, ShortObject, CounterRange, BagRefused}
 
 -- ---- a table of one process, found by its reference: these objects are put in, and then it is called
 
@@ -136,3 +137,80 @@ SumHasItsRange = Refuses [] (the_tuple (the_atom (codes "k") ∷ the_number larg
 
 abbrev pub CounterCounts : Type 0
 CounterCounts = Answers [] (the_tuple (the_atom (codes "k") ∷ the_number (pos 1) ∷ []) ∷ []) kinds.UpdateCounter (the_atom (codes "k") ∷ the_number (pos 1) ∷ []) (atom (codes "k") ∷ number 1 ∷ []) (number 2)
+
+-- ---- several additions, limits and defaults
+
+abbrev pub pair : ℤ → ℤ → Tree
+pair a b = the_tuple (the_number a ∷ the_number b ∷ [])
+
+abbrev pub one_k : List Tree
+one_k = the_tuple (the_atom (codes "k") ∷ the_number (pos 1) ∷ []) ∷ []
+
+abbrev pub k_with : ℕ → Meaning
+k_with n = tuple (atom (codes "k") ∷ number n ∷ [])
+
+-- one goes on from what the other leaves
+abbrev pub AdditionsGoOn : Type 0
+AdditionsGoOn = Answers [] one_k kinds.UpdateCounter (the_atom (codes "k") ∷ the_list (pair (pos 2) (pos 1) ∷ pair (pos 2) (pos 5) ∷ []) ∷ []) (atom (codes "k") ∷ list_of (tuple (number 2 ∷ number 1 ∷ []) ∷ tuple (number 2 ∷ number 5 ∷ []) ∷ []) ∷ []) (list_of (number 2 ∷ number 7 ∷ []))
+
+abbrev pub within : ℤ → ℤ → ℤ → Tree
+within amount limit value = the_tuple (the_number (pos 2) ∷ the_number amount ∷ the_number limit ∷ the_number value ∷ [])
+
+-- a sum at its limit stays, and one past it is set
+abbrev pub LimitIsReached : Type 0
+LimitIsReached = Answers [] one_k kinds.UpdateCounter (the_atom (codes "k") ∷ within (pos 2) (pos 3) (pos 0) ∷ []) (atom (codes "k") ∷ tuple (number 2 ∷ number 2 ∷ number 3 ∷ number 0 ∷ []) ∷ []) (number 3)
+
+abbrev pub LimitIsPassed : Type 0
+LimitIsPassed = Answers [] one_k kinds.UpdateCounter (the_atom (codes "k") ∷ within (pos 3) (pos 3) (pos 0) ∷ []) (atom (codes "k") ∷ tuple (number 2 ∷ number 3 ∷ number 3 ∷ number 0 ∷ []) ∷ []) (number 0)
+
+-- below it where something is taken away
+abbrev pub LimitIsPassedDown : Type 0
+LimitIsPassedDown = Answers [] one_k kinds.UpdateCounter (the_atom (codes "k") ∷ within (negsuc 0) (pos 1) (pos 9) ∷ []) (atom (codes "k") ∷ tuple (number 2 ∷ Int (negsuc 0) ∷ number 1 ∷ number 9 ∷ []) ∷ []) (number 9)
+
+-- a limit keeps a sum in its range
+abbrev pub LimitKeepsTheRange : Type 0
+LimitKeepsTheRange = Answers [] (the_tuple (the_atom (codes "k") ∷ the_number largest ∷ []) ∷ []) kinds.UpdateCounter (the_atom (codes "k") ∷ within (pos 1) largest (pos 0) ∷ []) (atom (codes "k") ∷ tuple (number 2 ∷ number 1 ∷ Int largest ∷ number 0 ∷ []) ∷ []) (number 0)
+
+-- a call that may fail, and what is looked up after it
+abbrev pub tried : Tree → Tree
+tried call = trees.Try 0 call (mention (codes "X") ∷ []) (the (codes "X")) (mention (codes "K") ∷ mention (codes "R") ∷ []) (the_atom (codes "none"))
+
+-- where one of several is refused nothing is added
+abbrev pub AllOrNoneIsAdded : Type 0
+AllOrNoneIsAdded = ThenAnswers [] one_k (tried (on_it kinds.UpdateCounter (the_atom (codes "k") ∷ the_list (pair (pos 2) (pos 1) ∷ pair (pos 3) (pos 1) ∷ []) ∷ []))) kinds.Lookup (the_atom (codes "k") ∷ []) (atom (codes "k") ∷ []) (list_of (k_with 1 ∷ []))
+
+-- a default is put in under the key, and counted
+abbrev pub default : Tree
+default = the_tuple (the_atom (codes "d") ∷ the_number (pos 4) ∷ [])
+
+abbrev pub DefaultIsCounted : Type 0
+DefaultIsCounted = ThenAnswers [] [] (on_it kinds.UpdateCounterWith (the_atom (codes "k") ∷ the_number (pos 1) ∷ default ∷ [])) kinds.Lookup (the_atom (codes "k") ∷ []) (atom (codes "k") ∷ []) (list_of (k_with 5 ∷ []))
+
+-- also where nothing is added
+abbrev pub DefaultIsPutIn : Type 0
+DefaultIsPutIn = ThenAnswers [] [] (on_it kinds.UpdateCounterWith (the_atom (codes "k") ∷ the_list [] ∷ default ∷ [])) kinds.Lookup (the_atom (codes "k") ∷ []) (atom (codes "k") ∷ []) (list_of (k_with 4 ∷ []))
+
+-- but not where the key is there
+abbrev pub DefaultIsLeft : Type 0
+DefaultIsLeft = Answers [] one_k kinds.UpdateCounterWith (the_atom (codes "k") ∷ the_number (pos 1) ∷ default ∷ []) (atom (codes "k") ∷ number 1 ∷ tuple (atom (codes "d") ∷ number 4 ∷ []) ∷ []) (number 2)
+
+-- what is no object is refused also there, one without a key only where it is taken
+abbrev pub DefaultIsNoObject : Type 0
+DefaultIsNoObject = Refuses [] one_k kinds.UpdateCounterWith (the_atom (codes "k") ∷ the_number (pos 1) ∷ the_number (pos 0) ∷ []) (atom (codes "k") ∷ number 1 ∷ number 0 ∷ []) NotObject
+
+abbrev pub DefaultHasNoKey : Type 0
+DefaultHasNoKey = Refuses [] one_k kinds.UpdateCounterWith (the_atom (codes "l") ∷ the_list [] ∷ the_tuple [] ∷ []) (atom (codes "l") ∷ list_of [] ∷ tuple [] ∷ []) ShortObject
+
+-- ---- several elements
+
+-- of two at one position the later one stays
+abbrev pub ElementsAreChanged : Type 0
+ElementsAreChanged = ThenAnswers [] two (on_it kinds.UpdateElement (the_number (pos 1) ∷ the_list (pair_of (pos 2) (codes "y") ∷ pair_of (pos 2) (codes "z") ∷ []) ∷ [])) kinds.Lookup (the_number (pos 1) ∷ []) (number 1 ∷ []) (list_of (tuple (number 1 ∷ atom (codes "z") ∷ []) ∷ []))
+
+-- where one is refused none is changed
+abbrev pub AllOrNoneIsChanged : Type 0
+AllOrNoneIsChanged = ThenAnswers [] two (tried (on_it kinds.UpdateElement (the_number (pos 1) ∷ the_list (pair_of (pos 2) (codes "y") ∷ pair_of (pos 1) (codes "z") ∷ []) ∷ []))) kinds.Lookup (the_number (pos 1) ∷ []) (number 1 ∷ []) (list_of (tuple (number 1 ∷ atom (codes "x") ∷ []) ∷ []))
+
+-- where the key is missing a change at the place of the key is still refused
+abbrev pub ChangeOfTheKeyIsRefused : Type 0
+ChangeOfTheKeyIsRefused = Refuses [] two kinds.UpdateElement (the_number (pos 3) ∷ pair_of (pos 1) (codes "y") ∷ []) (number 3 ∷ tuple (number 1 ∷ atom (codes "y") ∷ []) ∷ []) BadPosition

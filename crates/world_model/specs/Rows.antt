@@ -34,6 +34,11 @@ abbrev pub with_part : ℕ → Meaning → Object → Object
 with_part n x [] = []
 with_part n x (y ∷ ys) = if n == 1 then x ∷ ys else y ∷ with_part (n - 1) x ys
 
+-- and with others, one after the other
+abbrev pub with_parts : List (ℕ × Meaning) → Object → Object
+with_parts [] object = object
+with_parts (part ∷ parts) object = with_parts parts (with_part part.0 part.1 object)
+
 -- whether an object has no part there
 abbrev pub is_short : ℕ → Object → Bool
 is_short position object = not (is_some (part_at position object))
@@ -52,7 +57,6 @@ pub data RowChange : Type 0 where
   Stores : (kind : Kind) (object : Object) → RowChange
   Removes : (object : Object) → RowChange
   Clears : RowChange
-  Alters : (position : ℕ) (value : Meaning) → RowChange
 
 -- in a set it replaces what was there; a bag holds it once; a duplicate_bag adds it
 abbrev pub stored : Kind → Object → List Object → List Object
@@ -61,16 +65,10 @@ stored OrderedSet object there = object ∷ []
 stored Bag object there = if list_any (same_object object) there then there else there ++ (object ∷ [])
 stored DuplicateBag object there = there ++ (object ∷ [])
 
--- the first object gets another part
-abbrev pub altered : ℕ → Meaning → List Object → List Object
-altered position value [] = []
-altered position value (object ∷ objects) = with_part position value object ∷ objects
-
 abbrev pub rewritten : RowChange → List Object → List Object
 rewritten (Stores kind object) there = stored kind object there
 rewritten (Removes object) there = filter (λ x. not (same_object object x)) there
 rewritten Clears there = []
-rewritten (Alters position value) there = altered position value there
 
 -- ---- all rows of a table: the objects under each key that has any, in the order of keys
 

@@ -10,8 +10,8 @@ use Rattle.world_model.specs.Changes.{cell_of}
 use Rattle.world_model.specs.Events.{History, event, Served}
 use Rattle.world_model.specs.TableAccess.{Found}
 use Rattle.world_model.specs.Names.{Pid}
-use Rattle.world_model.specs.Objects.{given, one_present, keys_asked, place_of, sum_of}
-use Rattle.world_model.specs.Rows.{Object, Key, parts_at, same_key, stored, part_at, rewritten, Removes, altered}
+use Rattle.world_model.specs.Objects.{given, one_present, keys_asked, counter_object}
+use Rattle.world_model.specs.Rows.{Object, Key, parts_at, same_key, stored, part_at, with_parts, rewritten, Removes}
 use Rattle.world_model.specs.TableLines.{table_line}
 use Rattle.world_model.specs.Tables.{is_bag}
 use Rattle.world_model.specs.RowFootprints.{Touch, NoRow, RowsOfKeys, EachRow, cells_of}
@@ -28,6 +28,10 @@ abbrev pub unless_present : Bool → List Key → Touch
 unless_present true ks = NoRow
 unless_present false ks = RowsOfKeys ks
 
+abbrev pub if_there : List Object → Key → Touch
+if_there [] key = NoRow
+if_there (object ∷ objects) key = RowsOfKeys (key ∷ [])
+
 abbrev pub rows_written : Contents → Pid → Found → TableCall → Touch
 rows_written v p f (Insert objects) = RowsOfKeys (parts_at f.table.position (given objects))
 rows_written v p f (InsertNew objects) = unless_present (one_present v f.ref (keys_asked p f objects)) (parts_at f.table.position (given objects))
@@ -36,8 +40,8 @@ rows_written v p f (DeleteKey key) = RowsOfKeys (key ∷ [])
 rows_written v p f (DeleteObject object) = RowsOfKeys (key_of_object f.table.position object)
 rows_written v p f DeleteAll = EachRow
 rows_written v p f (Take key) = RowsOfKeys (key ∷ [])
-rows_written v p f (UpdateCounter key increment) = RowsOfKeys (key ∷ [])
-rows_written v p f (UpdateElement key change) = RowsOfKeys (key ∷ [])
+rows_written v p f (UpdateCounter key increment default) = RowsOfKeys (key ∷ [])
+rows_written v p f (UpdateElement key changes) = if_there (v (Row f.ref key)) key
 rows_written v p f call = NoRow
 
 -- the cells among these that are rows
@@ -71,9 +75,10 @@ abbrev pub without_object : Key → ℕ → Option Object → List Object → Li
 without_object key position None there = there
 without_object key position (Some o) there = under_key (is_key key (part_at position o)) (rewritten (Removes o) there) there
 
-abbrev pub with_change : Option (ℕ × Meaning) → List Object → List Object
-with_change None there = there
-with_change (Some change) there = altered change.0 change.1 there
+-- an object with other parts in the place of the one that was there, if one was
+abbrev pub with_changes : Kind → Option (List (ℕ × Meaning)) → List Object → List Object → List Object
+with_changes kind changes [] there = there
+with_changes kind changes (object ∷ objects) there = stored kind (with_parts (given changes) object) there
 
 abbrev pub rows_left : Contents → Pid → Found → TableCall → Key → List Object → List Object
 rows_left v p f (Insert objects) k there = stored_all f.table.kind f.table.position k (given objects) there
@@ -83,8 +88,8 @@ rows_left v p f (DeleteKey key) k there = under_key (same_key key k) [] there
 rows_left v p f (DeleteObject object) k there = without_object k f.table.position object there
 rows_left v p f DeleteAll k there = []
 rows_left v p f (Take key) k there = under_key (same_key key k) [] there
-rows_left v p f (UpdateCounter key increment) k there = under_key (same_key key k) (altered (place_of f.table.position increment) (sum_of f.table increment (v (Row f.ref key))) there) there
-rows_left v p f (UpdateElement key change) k there = under_key (same_key key k) (with_change change there) there
+rows_left v p f (UpdateCounter key increment default) k there = under_key (same_key key k) (stored f.table.kind (counter_object f.table key increment default (v (Row f.ref key))) there) there
+rows_left v p f (UpdateElement key changes) k there = under_key (same_key key k) (with_changes f.table.kind changes (v (Row f.ref key)) there) there
 rows_left v p f call k there = there
 
 -- the rows of the table that is found, after a served call of it

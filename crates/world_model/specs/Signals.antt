@@ -5,8 +5,8 @@ use Rattle.term_core.specs.Meaning.{Meaning}
 use Rattle.world_model.specs.Cells.{Cell, Trap, Front, Tail, Links, Watch, Watchers, Guard, Contents}
 use Rattle.world_model.specs.Changes.{Change, SignalPut, PartnerRemoved, WatchCleared, WatcherRemoved, GuardCleared, GuardUnwatched}
 use Rattle.world_model.specs.Events.{Signal, Message, Exit, LinkExit, Down, Guarded, Elapsed, Fate, Arrives, IsIgnored, IsDropped, Kills}
-use Rattle.world_model.specs.Guards.{is_alias_of, ends_by_reply, timer_in}
-use Rattle.world_model.specs.Names.{Pid, Ref, same_pid}
+use Rattle.world_model.specs.Guards.{is_alias_of, ends_by_reply, timer_in, watch_name}
+use Rattle.world_model.specs.Names.{Name, Pid, Ref, own_node, same_pid}
 use Rattle.world_model.specs.Terms.{reference, atom, process, tuple, is_atom}
 
 -- ---- messages of the world
@@ -15,9 +15,14 @@ use Rattle.world_model.specs.Terms.{reference, atom, process, tuple, is_atom}
 abbrev pub exit_message : Pid → Meaning → Meaning
 exit_message s reason = tuple (atom (codes "EXIT") ∷ process s ∷ reason ∷ [])
 
+-- what the message of a watch calls its process: that process, or the name by which the watch was made, with the node
+abbrev pub watched_as : Pid → Option Name → Meaning
+watched_as s None = process s
+watched_as s (Some name) = tuple (atom name ∷ atom own_node ∷ [])
+
 -- the message of a watch (erlang manual, `monitor/2`)
-abbrev pub down_message : Ref → Pid → Meaning → Meaning
-down_message ref s reason = tuple (atom (codes "DOWN") ∷ reference ref ∷ atom (codes "process") ∷ process s ∷ reason ∷ [])
+abbrev pub down_message : Ref → Meaning → Meaning → Meaning
+down_message ref who reason = tuple (atom (codes "DOWN") ∷ reference ref ∷ atom (codes "process") ∷ who ∷ reason ∷ [])
 
 -- the message to a new owner (ets manual, `give_away/3`)
 abbrev pub transfer_message : Meaning → Pid → Meaning → Meaning
@@ -55,8 +60,8 @@ abbrev pub link_fate : Bool → Bool → Pid → Meaning → Fate
 link_fate stands traps s reason = if stands then as_exit traps false s reason else IsDropped
 
 -- the signal of a watch that is gone is dropped
-abbrev pub down_fate : Option Pid → Ref → Pid → Meaning → Fate
-down_fate target ref s reason = if is_some target then Arrives (down_message ref s reason) else IsDropped
+abbrev pub down_fate : Option Pid → Ref → Meaning → Meaning → Fate
+down_fate target ref who reason = if is_some target then Arrives (down_message ref who reason) else IsDropped
 
 -- a message that nothing lets in is dropped
 abbrev pub guarded_fate : Bool → Meaning → Fate
@@ -66,7 +71,7 @@ abbrev pub fate_of : Contents → Pid → Pid → Signal → Fate
 fate_of v s r (Message message) = Arrives message
 fate_of v s r (Exit reason) = exit_fate (v (Trap r)) false s reason
 fate_of v s r (LinkExit reason) = link_fate (list_any (same_pid s) (v (Links r))) (v (Trap r)) s reason
-fate_of v s r (Down ref reason) = down_fate (v (Watch ref)) ref s reason
+fate_of v s r (Down ref reason) = down_fate (v (Watch ref)) ref (watched_as s (watch_name (v (Guard ref)))) reason
 fate_of v s r (Guarded ref message) = guarded_fate (is_alias_of r (v (Guard ref))) message
 fate_of v s r (Elapsed ref message) = guarded_fate (is_some (timer_in (v (Guard ref)))) message
 
@@ -82,7 +87,7 @@ abbrev pub reads_of_fate : Contents → Pid → Pid → Signal → List Cell
 reads_of_fate v s r (Message message) = []
 reads_of_fate v s r (Exit reason) = Trap r ∷ []
 reads_of_fate v s r (LinkExit reason) = Links r ∷ Links s ∷ trap_if (list_any (same_pid s) (v (Links r))) r
-reads_of_fate v s r (Down ref reason) = Watch ref ∷ Watchers s ∷ []
+reads_of_fate v s r (Down ref reason) = Watch ref ∷ Watchers s ∷ Guard ref ∷ []
 reads_of_fate v s r (Guarded ref message) = Guard ref ∷ watch_if (ends_by_reply r (v (Guard ref))) ref
 reads_of_fate v s r (Elapsed ref message) = Guard ref ∷ []
 

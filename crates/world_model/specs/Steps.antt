@@ -1,11 +1,11 @@
 -- What each step does: its deed, its changes, and the cells that it reads.
-use Rattle.std.specs.Prelude.{◌&&◌, ◌∷◌, ◌++◌, if◌then◌else◌, Option, None, Some, Bool, true, is_some, false, List, [], codes}
+use Rattle.std.specs.Prelude.{◌&&◌, ◌∷◌, ◌++◌, if◌then◌else◌, Option, None, Some, Bool, not, true, is_some, false, List, [], codes}
 use Rattle.term_core.specs.Meaning.{Meaning}
 use Rattle.term_core.specs.declared.step.Step.{Step}
 use Rattle.term_core.specs.declared.step.Step.TheVariants.{Turn, Deliver}
 use Rattle.core_calls.specs.declared.call.CallKind.{CallKind}
 use Rattle.core_semantics.specs.Asked as answered
-use Rattle.world_model.specs.Calls.{Call, SendExit, IsAlive, call_of}
+use Rattle.world_model.specs.Calls.{Call, SendExit, IsAlive, ProcessInfo, call_of}
 use Rattle.world_model.specs.Cells.{Cell, Alive, Contents, Trap, Course, Machine, Front, Tail}
 use Rattle.world_model.specs.Changes.{Change, TurnTaken, MessageTaken, MessageAdded, SignalDelivered, after}
 use Rattle.world_model.specs.Ends.{ends, reads_of_end}
@@ -33,9 +33,10 @@ abbrev pub ends_itself : Contents → Pid → Call → Option Meaning
 ends_itself v p (SendExit (Some q) reason) = own_end (same_pid p q) (v (Trap p)) p reason
 ends_itself v p call = None
 
--- `is_process_alive/1` of a process that lives waits until the caller's own signals to it have arrived
+-- `is_process_alive/1` of a process that lives waits until the caller's own signals to it have arrived, and so does `process_info/2` of another
 abbrev pub must_wait : Contents → Pid → Call → Bool
 must_wait v p (IsAlive (Some q)) = v (Alive q) && is_some (first_of (waiting_in v p q))
+must_wait v p (ProcessInfo (Some q) (Some item)) = not (same_pid p q) && (v (Alive q) && is_some (first_of (waiting_in v p q)))
 must_wait v p call = false
 
 abbrev pub judged : CallKind → List Meaning → Option Refusal → Meaning → Deed

@@ -1,6 +1,6 @@
 -- What a table argument finds, and who may call (ets manual, "Table Access Control").
 use Rattle.std.specs.Prelude.{Bool, true, false, List, [], ◌∷◌, Option, Some, None, if◌then◌else◌}
-use Rattle.world_model.specs.Calls.{TableArgument, ByName, ByReference, ByNothing, TableCall, Lookup, Member, LookupElement, First, Last, Next, Prev, ToList, Insert, InsertNew, DeleteTable, DeleteKey, DeleteObject, DeleteAll, Take, UpdateCounter, UpdateElement, GiveAway, SetOptions, Info}
+use Rattle.world_model.specs.Calls.{TableArgument, ByName, ByReference, ByNothing, TableCall, Lookup, Member, LookupElement, First, Last, Next, Prev, ToList, Insert, InsertNew, DeleteTable, DeleteKey, DeleteObject, DeleteAll, Take, UpdateCounter, UpdateElement, GiveAway, SetOptions, Info, InfoAll}
 use Rattle.world_model.specs.Cells.{Table, Cell, TableName, Contents}
 use Rattle.world_model.specs.Names.{Pid, Ref, same_pid}
 use Rattle.world_model.specs.Tables as tables
@@ -69,11 +69,12 @@ class_of (DeleteKey key) = Write
 class_of (DeleteObject object) = Write
 class_of DeleteAll = Write
 class_of (Take key) = Write
-class_of (UpdateCounter key increment) = Write
-class_of (UpdateElement key change) = Write
+class_of (UpdateCounter key increment default) = Write
+class_of (UpdateElement key changes) = Write
 class_of (GiveAway to gift) = Owners
 class_of (SetOptions heirs) = Owners
 class_of (Info item) = Open
+class_of InfoAll = Open
 
 -- by the class of a call, the protection of the table, and whether the caller owns it
 abbrev pub access_rule : Class → Protection → Bool → Option Rule
@@ -90,7 +91,7 @@ access_rule Write Private false = Some PrivateWrite
 abbrev pub access_rule_at : Pid → Found → TableCall → Option Rule
 access_rule_at p f call = access_rule (class_of call) f.table.protection (same_pid f.table.owner p)
 
--- where no table is found: only `info/2` is served
+-- where no table is found: only `info/1` and `info/2` are served
 abbrev pub rule_of_none : Class → Option Rule
 rule_of_none Read = Some NoTable
 rule_of_none Write = Some NoTable

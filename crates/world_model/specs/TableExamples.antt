@@ -116,6 +116,9 @@ ask_x = ask_for kinds.Info (the_table ∷ the_atom (codes "x") ∷ [])
 abbrev pub InfoOfNone : Type 0
 InfoOfNone = EndsWith (module_of (main ask_x ∷ [])) (Turn P ∷ []) (serves_it P kinds.Info (t ∷ atom (codes "x") ∷ []) (atom (codes "undefined")))
 
+abbrev pub AllItemsOfNone : Type 0
+AllItemsOfNone = EndsWith (module_of (main (ask_for kinds.InfoAll (the_table ∷ [])) ∷ [])) (Turn P ∷ []) (serves_it P kinds.InfoAll (t ∷ []) (atom (codes "undefined")))
+
 abbrev pub ItemIsUnknown : Type 0
 ItemIsUnknown = EndsWith (module_of (main (in_turn (new_table []) ask_x) ∷ [])) (Turn P ∷ Turn P ∷ []) (refuses_it P kinds.Info (t ∷ atom (codes "x") ∷ []) BadItem (Some P))
 

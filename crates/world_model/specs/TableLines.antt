@@ -1,19 +1,19 @@
 -- The calls of tables line by line, at a table that is found: the first rule of the arguments that fails, and where none does the answer and the changes; and the rows that the line reads (Erlang manual, module `ets`, each under the name of its call).
 use Rattle.std.specs.FinMap.{keys}
-use Rattle.std.specs.Prelude.{◌∷◌, if◌then◌else◌, Option, List, None, not, Bool, []}
+use Rattle.std.specs.Prelude.{◌∷◌, ℕ, if◌then◌else◌, Option, List, None, not, Bool, []}
 use Rattle.term_core.specs.Meaning.{Meaning}
-use Rattle.world_model.specs.Calls.{Increment, TableCall, Lookup, Member, LookupElement, First, Last, Next, Prev, ToList, Insert, InsertNew, DeleteTable, DeleteKey, DeleteObject, DeleteAll, Take, UpdateCounter, UpdateElement, GiveAway, SetOptions, Info, has_items}
+use Rattle.world_model.specs.Calls.{Increment, TableCall, Lookup, Member, LookupElement, First, Last, Next, Prev, ToList, Insert, InsertNew, DeleteTable, DeleteKey, DeleteObject, DeleteAll, Take, UpdateCounter, UpdateElement, GiveAway, SetOptions, Info, InfoAll, has_items}
 use Rattle.world_model.specs.Cells.{Row, Rows, Contents}
 use Rattle.world_model.specs.Changes.{Change, RowWritten, RowsCleared}
 use Rattle.world_model.specs.TableAccess.{Found}
 use Rattle.world_model.specs.Names.{Pid}
-use Rattle.world_model.specs.Objects.{objects_rule, stores, given, counter_rule, sum_of, place_of, keys_asked, element_rule, element_answer, one_present, one_object, removes, update_rule, alters}
+use Rattle.world_model.specs.Objects.{objects_rule, stores, given, counter_rule, counter_answer, counter_object, keys_asked, element_rule, element_answer, one_present, one_object, removes, update_rule, alters}
 use Rattle.world_model.specs.Ownership.{destroyed, target_rule, gives_to, heirs_rule, heirs_set}
-use Rattle.world_model.specs.Rows.{Key, Object, Alters, tuples, all_objects, Clears}
+use Rattle.world_model.specs.Rows.{Key, Object, Stores, tuples, all_objects, Clears}
 use Rattle.world_model.specs.Signals.{first_of}
 use Rattle.world_model.specs.Terms.{ok, truth}
 use Rattle.world_model.specs.RowFootprints.{Touch, RowsOfKeys, EachRow, NoRow}
-use Rattle.world_model.specs.Walks.{read_by_item, key_or_end, last_key, walk_rule, key_after, key_before, item_rule, item_value}
+use Rattle.world_model.specs.Walks.{read_by_item, key_or_end, last_key, walk_rule, key_after, key_before, item_rule, item_value, all_items}
 use Rattle.world_model.specs.declared.rule.Rule.{Rule}
 
 pub record Line : Type 0 where
@@ -33,9 +33,13 @@ unless rule answer changes = record { rule = rule; answer = answer; changes = ch
 abbrev pub insert_new_line : Bool → Found → Option (List Object) → Line
 insert_new_line present f objects = unless (objects_rule f.table.position objects) (truth (not present)) (if present then [] else stores f (given objects))
 
--- the sum is put in the place of what was there
-abbrev pub counter_line : Found → Key → Increment → List Object → Line
-counter_line f key increment there = unless (counter_rule f.table increment there) (sum_of f.table increment there) (RowWritten f.ref key (Alters (place_of f.table.position increment) (sum_of f.table increment there)) ∷ [])
+-- the object with the sums is put in the place of what was there
+abbrev pub counter_line : Found → Key → Increment → Option (Option Object) → List Object → Line
+counter_line f key increment default there = unless (counter_rule f.table increment default there) (counter_answer f.table increment default there) (RowWritten f.ref key (Stores f.table.kind (counter_object f.table key increment default there)) ∷ [])
+
+-- whether the key was there
+abbrev pub element_line : Found → Key → Option (List (ℕ × Meaning)) → List Object → Line
+element_line f key changes there = unless (update_rule f.table changes there) (truth (has_items there)) (alters f key changes there)
 
 -- ---- the rows that a line reads
 
@@ -55,11 +59,12 @@ rows_read p f (DeleteKey key) = RowsOfKeys (key ∷ [])
 rows_read p f (DeleteObject object) = NoRow
 rows_read p f DeleteAll = NoRow
 rows_read p f (Take key) = RowsOfKeys (key ∷ [])
-rows_read p f (UpdateCounter key increment) = RowsOfKeys (key ∷ [])
-rows_read p f (UpdateElement key change) = RowsOfKeys (key ∷ [])
+rows_read p f (UpdateCounter key increment default) = RowsOfKeys (key ∷ [])
+rows_read p f (UpdateElement key changes) = RowsOfKeys (key ∷ [])
 rows_read p f (GiveAway to gift) = NoRow
 rows_read p f (SetOptions heirs) = NoRow
 rows_read p f (Info item) = read_by_item item
+rows_read p f InfoAll = EachRow
 
 -- ---- the lines
 
@@ -92,13 +97,15 @@ table_line v p f (DeleteObject object) = unless (objects_rule f.table.position (
 table_line v p f DeleteAll = gives ok (RowsCleared f.ref ∷ [])
 -- take/2
 table_line v p f (Take key) = gives (tuples (v (Row f.ref key))) (RowWritten f.ref key Clears ∷ [])
--- update_counter/3
-table_line v p f (UpdateCounter key increment) = counter_line f key increment (v (Row f.ref key))
+-- update_counter/3, update_counter/4
+table_line v p f (UpdateCounter key increment default) = counter_line f key increment default (v (Row f.ref key))
 -- update_element/3
-table_line v p f (UpdateElement key change) = unless (update_rule f.table change (v (Row f.ref key))) (truth (has_items (v (Row f.ref key)))) (alters f.ref key change)
+table_line v p f (UpdateElement key changes) = element_line f key changes (v (Row f.ref key))
 -- give_away/3
 table_line v p f (GiveAway to gift) = unless (target_rule v f.table to) ok (gives_to f to gift)
 -- setopts/2
 table_line v p f (SetOptions heirs) = unless (heirs_rule heirs) ok (heirs_set f.ref (given heirs))
 -- info/2
 table_line v p f (Info item) = unless (item_rule item) (item_value v f item) []
+-- info/1
+table_line v p f InfoAll = gives (all_items v f) []

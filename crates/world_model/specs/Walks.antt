@@ -1,10 +1,11 @@
--- Walks over the keys of a table, and the items that are reported about it (ets manual, `first/1`, `last/1`, `next/2`, `prev/2`, `info/2`).
+-- Walks over the keys of a table, and the items that are reported about it (ets manual, `first/1`, `last/1`, `next/2`, `prev/2`, `info/1`, `info/2`).
 use Rattle.std.specs.FinMap.{keys, contains_key}
 use Rattle.std.specs.List.{filter}
 use Rattle.std.specs.Ordering.{is_lt, is_gt}
-use Rattle.std.specs.Prelude.{List, ◌||◌, if◌then◌else◌, Option, reverse, None, codes, Some, length}
+use Rattle.std.specs.Prelude.{List, [], ◌∷◌, map, ◌||◌, if◌then◌else◌, Option, reverse, None, codes, Some, length}
 use Rattle.term_core.specs.Meaning.{Meaning}
 use Rattle.term_core.specs.Order.{order_of_terms}
+use Rattle.world_model.specs.Calls.{known_items}
 use Rattle.world_model.specs.Cells.{Rows, Contents}
 use Rattle.world_model.specs.Ends.{heir_pid}
 use Rattle.world_model.specs.TableAccess.{Found}
@@ -13,7 +14,7 @@ use Rattle.world_model.specs.Rows as rows
 use Rattle.world_model.specs.Rows.{Key, all_objects}
 use Rattle.world_model.specs.Signals.{first_of}
 use Rattle.world_model.specs.Tables.{is_ordered}
-use Rattle.world_model.specs.Terms.{atom, ok, process, number, process_or, truth}
+use Rattle.world_model.specs.Terms.{atom, ok, process, number, process_or, truth, tuple, list_of}
 use Rattle.world_model.specs.RowFootprints.{Touch, EachRow, NoRow}
 use Rattle.world_model.specs.declared.rule.Rule.{Rule}
 use Rattle.world_model.specs.declared.rule.Rule.TheVariants.{NoKey, BadItem}
@@ -73,6 +74,13 @@ item_value v f (Some items.Size) = number (length (all_objects (v (Rows f.ref)))
 item_value v f (Some items.Position) = number f.table.position
 item_value v f (Some items.Heir) = process_or (codes "none") (heir_pid f.table.heir)
 item_value v f (Some items.NamedTable) = truth f.table.is_named
+
+-- all of them, each with its name
+abbrev pub item_pair : Contents → Found → (Name × Item) → Meaning
+item_pair v f item = tuple (atom item.0 ∷ item_value v f (Some item.1) ∷ [])
+
+abbrev pub all_items : Contents → Found → Meaning
+all_items v f = list_of (map (item_pair v f) known_items)
 
 abbrev pub read_by_item : Option Item → Touch
 read_by_item (Some items.Size) = EachRow

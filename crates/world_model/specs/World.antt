@@ -1,12 +1,13 @@
 -- What a history leaves in each cell, and what it says.
-use Rattle.std.specs.FinMap.{empty}
+use Rattle.std.specs.FinMap.{FinMap, empty}
 use Rattle.std.specs.Prelude.{◌∷◌, [], None, false, Bool, ℕ, List, Option, option_map}
 use Rattle.term_core.specs.Meaning.{Meaning}
+use Rattle.term_core.specs.Order.{order_of_lists}
 use Rattle.term_core.specs.declared.step.Step.{Step}
 use Rattle.core_semantics.specs.Ask.{is_first}
 use Rattle.core_semantics.specs.Asked.{Answered}
 use Rattle.world_model.specs.Calls.{Call, TableArgument, TableCall}
-use Rattle.world_model.specs.Cells.{Table, Row, Rows, Contents, Machine, Alive, Trap, Taken, Mailed, Front, Tail, Links, Watch, Watchers, Guard, Holder, NameOf, TableName, Owned}
+use Rattle.world_model.specs.Cells.{Table, Row, Rows, Contents, Machine, Alive, Trap, Taken, Mailed, Front, Tail, Links, Watch, Watchers, Guard, Holder, Holders, NameOf, TableName, Owned}
 use Rattle.world_model.specs.Changes.{after}
 use Rattle.world_model.specs.Events.{Deed, History, Signal, Refusal}
 use Rattle.world_model.specs.Guards as guards
@@ -39,6 +40,7 @@ beginning (Watchers p) = []
 beginning (Watch ref) = None
 beginning (Guard ref) = None
 beginning (Holder name) = None
+beginning Holders = empty
 beginning (NameOf p) = None
 beginning (TableName name) = None
 beginning (Table t) = None
@@ -96,9 +98,12 @@ watches_of h p = contents h (Watchers p)
 abbrev pub guarded : History → Ref → Option guards.Guard
 guarded h ref = contents h (Guard ref)
 
--- who holds a name, and the name of a process
+-- who holds a name, each name that has a holder with that, and the name of a process
 abbrev pub holder : History → Name → Option Pid
 holder h name = contents h (Holder name)
+
+abbrev pub holders : History → FinMap order_of_lists Pid
+holders h = contents h Holders
 
 abbrev pub name_of : History → Pid → Option Name
 name_of h p = contents h (NameOf p)

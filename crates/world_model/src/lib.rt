@@ -4,5 +4,6 @@
 
 pub mod alias;
 pub mod laws;
+pub mod process;
 pub mod rule;
 pub mod table;

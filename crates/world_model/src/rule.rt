@@ -23,13 +23,13 @@ pub enum Rule {
     BadOption = 8,
     /// The name of a new named table is in use.
     NameTaken = 9,
-    /// What is put in or taken out is no object.
+    /// What is put in or taken out is no object, or a default is none.
     NotObject = 10,
     /// An object is too short to have a key.
     ShortObject = 11,
     /// A position is not a valid one, or is that of the key where it is to be written, or an object has no part there.
     BadPosition = 12,
-    /// There is no object under the key.
+    /// There is no object under the key, and no default.
     NoKey = 13,
     /// What is to be added, or what it is added to, is no integer.
     NotInteger = 14,

@@ -6,14 +6,15 @@ use Rattle.core_calls.specs.declared.call.CallKind.{CallKind}
 use Rattle.core_calls.specs.declared.call.CallKind.TheVariants as kinds
 use Rattle.term_core.specs.Meaning.{Meaning, Tuple, Nil, Cons, parts_of}
 use Rattle.term_core.specs.Meaning as terms
-use Rattle.world_model.specs.Calls.{Call, Spawn, Send, SendExit, Link, Monitor, Register, StartTimer, New, OnTable, TableCall, Insert, InsertNew, DeleteKey, DeleteObject, Take, UpdateCounter, UpdateElement, GiveAway, SetOptions, origin_of, objects_by, objects_of, change_of_parts, change_of, call_of, call_of_one, call_of_two, call_of_three, call_of_none}
+use Rattle.world_model.specs.Calls.{Call, Spawn, Send, SendExit, Link, Monitor, Register, StartTimer, New, OnTable, TableCall, Insert, InsertNew, DeleteKey, DeleteObject, Take, UpdateCounter, UpdateElement, GiveAway, SetOptions, origin_of, objects_by, objects_of, change_of_parts, change_of, changes_of, call_of, call_of_one, call_of_two, call_of_three, call_of_four, call_of_none, alias_of, monitor_by, watched_name_of}
 use Rattle.world_model.specs.Names.{Pid, Name}
 use Rattle.world_model.specs.Rows.{Object}
 use Rattle.world_model.specs.Tables.{Heir, TableOption, AtPosition, WithHeir, Tunes, found_beside, tuning_words, heir_if, heir_of_parts, heir_option, pair_option, other_option, heir_or, option_of, heirs_or, plain_options}
 use Rattle.world_model.specs.Terms.{atom_in, process_in, integer_in, parts_in, is_atom, before, each_in, items_in, position_of, positive_in}
+use Rattle.world_model.specs.declared.alias.AliasEnd.{AliasEnd}
 use Rattle.world_pids.specs.Numbers.{IsNumbered}
 use Rattle.world_pids.proofs.Kept.{OriginTold, HeirTold}
-use Rattle.world_pids.proofs.Rows.{ObjectsTold}
+use Rattle.world_pids.proofs.Rows.{ObjectsTold, PartTold}
 use Rattle.world_pids.proofs.Told.{IfThere, chosen, IsTold, EachTold, parts_told}
 
 module _ (n : ℕ) where
@@ -27,8 +28,8 @@ module _ (n : ℕ) where
   TableCallTold (DeleteKey key) = IsTold n key
   TableCallTold (DeleteObject object) = IfThere (EachTold n) object
   TableCallTold (Take key) = IsTold n key
-  TableCallTold (UpdateCounter key increment) = IsTold n key
-  TableCallTold (UpdateElement key change) = IsTold n key × IfThere (λ (x : ℕ × Meaning). IsTold n x.1) change
+  TableCallTold (UpdateCounter key increment default) = IsTold n key × IfThere (IfThere (EachTold n)) default
+  TableCallTold (UpdateElement key changes) = IsTold n key × IfThere (λ (xs : List (ℕ × Meaning)). AllByRecursion (PartTold n) xs) changes
   TableCallTold (GiveAway to gift_) = IfThere (IsNumbered n) to × IsTold n gift_
   TableCallTold (SetOptions heirs) = IfThere (λ (hs : List Heir). AllByRecursion (HeirTold n) hs) heirs
   TableCallTold call = Unit {0}
@@ -97,6 +98,14 @@ module _ (n : ℕ) where
   change_told (Tuple parts) h = change_in (parts_of parts) (parts_told n parts h)
   change_told m h = tt
 
+  one_changed : (o : Option (ℕ × Meaning)) → IfThere (PartTold n) o → IfThere (λ (xs : List (ℕ × Meaning)). AllByRecursion (PartTold n) xs) (option_map (λ change. change ∷ []) o)
+  one_changed None h = tt
+  one_changed (Some x) h = (h, tt)
+
+  changes_told : (m : Meaning) → IsTold n m → IfThere (λ (xs : List (ℕ × Meaning)). AllByRecursion (PartTold n) xs) (changes_of m)
+  changes_told (Tuple parts) h = one_changed (change_of_parts (parts_of parts)) (change_in (parts_of parts) (parts_told n parts h))
+  changes_told m h = items_told (PartTold n) change_of change_told m h
+
   -- ---- options
 
   abbrev HeirGiven : Option Heir → Type 0
@@ -158,6 +167,10 @@ module _ (n : ℕ) where
 
   -- ---- calls
 
+  monitor_told : (b : Bool) (o : Option Pid) (name : Option Name) (alias : Option (Option AliasEnd)) → IfThere (IsNumbered n) o → CallTold (monitor_by b o name alias)
+  monitor_told b o None alias h = h
+  monitor_told b o (Some name) alias h = tt
+
   one_told : (kind : CallKind) (a : Meaning) → IsTold n a → CallTold (call_of_one kind a)
   one_told kinds.Link a h = process_told a h
   one_told kind a h = tt
@@ -166,7 +179,7 @@ module _ (n : ℕ) where
   two_told kinds.Bang a b h k = k
   two_told kinds.Send a b h k = k
   two_told kinds.Exit a b h k = k
-  two_told kinds.Monitor a b h k = process_told b k
+  two_told kinds.Monitor a b h k = monitor_told (is_atom (codes "process") a) (process_in b) (watched_name_of b) (Some None) (process_told b k)
   two_told kinds.Register a b h k = process_told b k
   two_told kinds.New a b h k = items_told OptionTold option_of option_told b k
   two_told kinds.Insert a b h k = given_told b k
@@ -181,13 +194,17 @@ module _ (n : ℕ) where
   three_told kinds.Spawn a b c h k = spawn_told a b c k
   three_told kinds.SpawnLink a b c h k = spawn_told a b c k
   three_told kinds.SpawnMonitor a b c h k = spawn_told a b c k
-  three_told kinds.MonitorWith a b c h k = process_told b h
+  three_told kinds.MonitorWith a b c h k = monitor_told (is_atom (codes "process") a) (process_in b) (watched_name_of b) (alias_of c) (process_told b h)
   three_told kinds.StartTimer a b c h k = k
   three_told kinds.SendAfter a b c h k = k
-  three_told kinds.UpdateCounter a b c h k = h
-  three_told kinds.UpdateElement a b c h k = (h, change_told c k)
+  three_told kinds.UpdateCounter a b c h k = (h, tt)
+  three_told kinds.UpdateElement a b c h k = (h, changes_told c k)
   three_told kinds.GiveAway a b c h k = (process_told b h, k)
   three_told kind a b c h k = tt
+
+  four_told : (kind : CallKind) (a b c d : Meaning) → IsTold n b → IsTold n d → CallTold (call_of_four kind a b c d)
+  four_told kinds.UpdateCounterWith a b c d h k = (h, object_told d k)
+  four_told kind a b c d h k = tt
 
   none_told : (kind : CallKind) → CallTold (call_of_none kind)
   none_told kinds.MakeRef = tt
@@ -198,4 +215,5 @@ module _ (n : ℕ) where
   call_told kind (a ∷ []) h = one_told kind a h.0
   call_told kind (a ∷ b ∷ []) h = two_told kind a b h.0 h.1.0
   call_told kind (a ∷ b ∷ c ∷ []) h = three_told kind a b c h.1.0 h.1.1.0
-  call_told kind (a ∷ b ∷ c ∷ d ∷ more) h = tt
+  call_told kind (a ∷ b ∷ c ∷ d ∷ []) h = four_told kind a b c d h.1.0 h.1.1.1.0
+  call_told kind (a ∷ b ∷ c ∷ d ∷ e ∷ more) h = tt

@@ -4,7 +4,7 @@ use Rattle.std.specs.List.{AllByRecursion}
 use Rattle.term_core.proofs.Pieces.{all-append}
 use Rattle.term_core.specs.Meaning.{Meaning}
 use Rattle.world_model.proofs.Meeting.{pids_same, both}
-use Rattle.world_model.specs.Cells.{Cell, Content, Contents, Machine, Alive, Trap, Taken, Mailed, Front, Tail, Links, Watchers, Watch, Guard, Holder, NameOf, TableName, Table, Row, Rows as RowsOf, Owned, meet}
+use Rattle.world_model.specs.Cells.{Cell, Content, Contents, Machine, Alive, Trap, Taken, Mailed, Front, Tail, Links, Watchers, Watch, Guard, Holder, Holders, NameOf, TableName, Table, Row, Rows as RowsOf, Owned, meet}
 use Rattle.world_model.specs.Changes.{Change, MachineStarted, TurnTaken, MachineHalted, AliveSet, AliveCleared, MessageAdded, SignalPut, HolderSet, HolderCleared, RowWritten, RowsCleared, TableSet, OwnerSet, HeirSet, TableRemoved, cell_of, renewed, changed, after}
 use Rattle.world_model.specs.Events.{Signal, Message, Exit, LinkExit, Down, Guarded, Elapsed}
 use Rattle.world_model.specs.Names.{Pid, same_pid}
@@ -104,6 +104,7 @@ module _ (n : ℕ) where
   renewed_told k (Watchers p) before meets told was = tt
   renewed_told k (Watch ref) before meets told was = tt
   renewed_told k (Guard ref) before meets told was = tt
+  renewed_told k Holders before meets told was = tt
   renewed_told k (NameOf p) before meets told was = tt
   renewed_told k (TableName name) before meets told was = tt
   renewed_told k (Owned p) before meets told was = tt

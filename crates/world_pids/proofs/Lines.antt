@@ -4,21 +4,21 @@ use Rattle.std.specs.FinMap.{keys}
 use Rattle.std.specs.List.{AllByRecursion, filter, cons_option}
 use Rattle.std.specs.Ordering.{is_lt, is_gt}
 use Rattle.term_core.proofs.Pieces.{all-append}
-use Rattle.term_core.specs.Meaning.{Meaning}
+use Rattle.term_core.specs.Meaning.{Meaning, Int}
 use Rattle.term_core.specs.Order.{order_of_terms}
-use Rattle.world_model.specs.Calls.{Call, Spawn, SpawnWay, Alone, Linked, Watched, Send, ToNobody, ToProcess, ToName, ToReference, SendExit, Link, Unlink, Monitor, Demonitor, Flag, Register, Unregister, WhereIs, IsAlive, MakeRef, MakeAlias, Unalias, StartTimer, CancelTimer, ReadTimer, New, OnTable, Misfit, TableArgument, ByName, ByReference, ByNothing, TableCall, Lookup, Member, LookupElement, First, Last, Next, Prev, ToList, Insert, InsertNew, DeleteTable, DeleteKey, DeleteObject, DeleteAll, Take, UpdateCounter, UpdateElement, GiveAway, SetOptions, Info}
-use Rattle.world_model.specs.Cells.{Contents, Machine, Alive, Trap, Links, Holder, Watch, Guard, TableName, Table, Row, Rows as RowsOf}
+use Rattle.world_model.specs.Calls.{Call, Spawn, SpawnWay, Alone, Linked, Watched, Send, ToNobody, ToProcess, ToName, ToReference, ToNode, ToAnotherNode, SendExit, Link, Unlink, Monitor, MonitorName, Demonitor, Flag, Register, Unregister, WhereIs, Registered, IsAlive, ProcessInfo, MakeRef, MakeAlias, Unalias, StartTimer, CancelTimer, ReadTimer, New, OnTable, Misfit, TableArgument, ByName, ByReference, ByNothing, TableCall, Lookup, Member, LookupElement, First, Last, Next, Prev, ToList, Insert, InsertNew, DeleteTable, DeleteKey, DeleteObject, DeleteAll, Take, UpdateCounter, UpdateElement, GiveAway, SetOptions, Info, InfoAll, Addition, Increment, InTurn, known_items}
+use Rattle.world_model.specs.Cells.{Contents, Machine, Alive, Trap, Links, Holder, Holders, NameOf, Watch, Guard, TableName, Table, Row, Rows as RowsOf}
 use Rattle.world_model.specs.Changes.{Change, GuardCleared, HeirSet, is_of_watch}
 use Rattle.world_model.specs.Ends.{heir_pid, name_freed}
 use Rattle.world_model.specs.Events.{Signal, Message, Exit, Guarded, Elapsed}
-use Rattle.world_model.specs.Guards.{aliased, is_alias_of, ends_by_reply, timer_in}
+use Rattle.world_model.specs.Guards.{aliased, is_alias_of, ends_by_reply, timer_in, watch_name}
 use Rattle.world_model.specs.Lines.{line}
 use Rattle.world_model.specs.Mailboxes.{picked, mailbox_in, selected_of}
 use Rattle.world_model.specs.Names.{Name, Pid, Ref, same_pid}
 use Rattle.world_model.specs.NewTables.{new_line, new_rule, means_if}
-use Rattle.world_model.specs.Objects.{given, stored_at, stores, removed_at, removes, value_or_ok, element_answer, alters, one_present, keys_asked}
+use Rattle.world_model.specs.Objects.{given, stored_at, stores, removed_at, removes, value_or_ok, element_answer, alters, one_present, keys_asked, additions_of, added, all_added, sum_in, sums_in, sums_answer, start_of, counter_object}
 use Rattle.world_model.specs.Ownership.{gives_to, heirs_set}
-use Rattle.world_model.specs.ProcessLines.{next_child, next_ref, bound, child_told, sent, sent_to_holder, exited, LinkWay, Stands, Pairs, PairsGone, Fails, link_changes, link_way, gone_told, alias_begins, alias_beside, watch_ends, flushed, send_line, unalias_line, timer_message, time_left, told_left, timer_ends, unregister_line}
+use Rattle.world_model.specs.ProcessLines.{next_child, next_ref, bound, child_told, sent, sent_to_holder, exited, LinkWay, Stands, Pairs, PairsGone, Fails, link_changes, link_way, gone_told, alias_begins, alias_beside, watch_ends, flushed, send_line, unalias_line, timer_message, time_left, told_left, timer_ends, unregister_line, alias_goes, named_line, name_told, item_told, info_line, undefined}
 use Rattle.world_model.specs.Rows.{Key, Object, part_at, parts_at}
 use Rattle.world_model.specs.Signals.{put_if, watch_goes, reply_ends, first_of}
 use Rattle.world_model.specs.TableAccess.{Found, as_found, meant, unless_named, find}
@@ -27,8 +27,10 @@ use Rattle.world_model.specs.TableRules.{found_line}
 use Rattle.world_model.specs.Tables as tables
 use Rattle.world_model.specs.Tables.{Heir, TableOption, OfKind, Protects, Named, AtPosition, WithHeir, Tunes, handle_of, is_bag, is_ordered, heir_in, last_asked, is_named, table_of}
 use Rattle.world_model.specs.Terms.{atom, truth, reference, process_or, list_of}
-use Rattle.world_model.specs.Walks.{key_or_end, last_of, key_after, item_value}
+use Rattle.world_model.specs.Walks.{key_or_end, last_of, key_after, item_value, item_pair}
 use Rattle.world_model.specs.declared.alias.AliasEnd.{AliasEnd}
+use Rattle.world_model.specs.declared.process.ProcessItem.{ProcessItem}
+use Rattle.world_model.specs.declared.process.ProcessItem.TheVariants.{RegisteredName, QueueLength}
 use Rattle.world_model.specs.declared.rule.Rule.{Rule}
 use Rattle.world_model.specs.declared.table.Item.{Item}
 use Rattle.world_model.specs.declared.table.Item.TheVariants as items
@@ -36,8 +38,8 @@ use Rattle.world_model.specs.declared.table.Kind.{Kind}
 use Rattle.world_pids.specs.Numbers.{IsNumbered}
 use Rattle.world_pids.proofs.Arguments.{CallTold, TableCallTold, OptionTold}
 use Rattle.world_pids.proofs.Kept.{SignalTold, HeirTold, TableTold, CellsTold, ChangesTold, both_told}
-use Rattle.world_pids.proofs.Rows.{ObjectsTold, keys_told, objects_told, part_told, list_told, tuples_told}
-use Rattle.world_pids.proofs.Told.{IfThere, chosen, all_reversed, all_filtered, IsTold, EachTold}
+use Rattle.world_pids.proofs.Rows.{ObjectsTold, PartTold, part_set, parts_set, keys_told, objects_told, part_told, list_told, tuples_told}
+use Rattle.world_pids.proofs.Told.{IfThere, chosen, all_reversed, all_filtered, IsTold, EachTold, tuple_told}
 
 module _ (n : ℕ) where
   -- what a call answers, and what it changes
@@ -96,9 +98,9 @@ module _ (n : ℕ) where
   removes_told f None h = tt
   removes_told f (Some object) h = removed_told f object (part_at f.table.position object) (part_told n f.table.position object h)
 
-  alters_told : (t : Ref) (key : Key) (o : Option (ℕ × Meaning)) → IsTold n key → IfThere (λ (x : ℕ × Meaning). IsTold n x.1) o → ChangesTold n (alters t key o)
-  alters_told t key None h k = tt
-  alters_told t key (Some x) h k = ((h, k), tt)
+  alters_told : (f : Found) (key : Key) (o : Option (List (ℕ × Meaning))) (there : List Object) → IsTold n key → IfThere (λ (xs : List (ℕ × Meaning)). AllByRecursion (PartTold n) xs) o → ObjectsTold n there → ChangesTold n (alters f key o there)
+  alters_told f key o [] h k l = tt
+  alters_told f key o (object ∷ objects) h k l = ((h, parts_set n (given o) object (given_told (PartTold n) o k) l.0), tt)
 
   with_part : (o : Option Meaning) (ms : List Meaning) → IfThere (IsTold n) o → EachTold n ms → EachTold n (cons_option o ms)
   with_part None ms h k = k
@@ -117,6 +119,31 @@ module _ (n : ℕ) where
   element_told kind (Some position) objects h =
       let parts = parts_told position objects h in
       chosen (IsTold n) (is_bag kind) (list_of (parts_at position objects)) (value_or_ok (first_of (parts_at position objects))) (list_told n (parts_at position objects) parts) (value_told (first_of (parts_at position objects)) (first_told (IsTold n) (parts_at position objects) parts))
+
+  -- ---- counters
+
+  sums_told : (additions : List Addition) (object : Object) → EachTold n (sums_in additions object)
+  sums_told [] object = tt
+  sums_told (addition ∷ additions) object = (tt, sums_told additions (added addition object))
+
+  answered_told : (increment : Increment) (sums : List Meaning) → EachTold n sums → IsTold n (sums_answer increment sums)
+  answered_told (InTurn additions) sums h = list_told n sums h
+  answered_told increment sums h = value_told (first_of sums) (first_told (IsTold n) sums h)
+
+  added_told : (additions : List Addition) (object : Object) → EachTold n object → EachTold n (all_added additions object)
+  added_told [] object h = h
+  added_told (addition ∷ additions) object h = added_told additions (added addition object) (part_set n addition.position (Int (sum_in addition object)) object tt h)
+
+  start_told : (default : Option (Option Object)) (there : List Object) → IfThere (IfThere (EachTold n)) default → ObjectsTold n there → EachTold n (start_of default there)
+  start_told default (object ∷ objects) h k = k.0
+  start_told (Some (Some object)) [] h k = h
+  start_told (Some None) [] h k = tt
+  start_told None [] h k = tt
+
+  counted_told : (table : tables.Table) (key : Key) (increment : Increment) (default : Option (Option Object)) (there : List Object) → IsTold n key → IfThere (IfThere (EachTold n)) default → ObjectsTold n there → EachTold n (counter_object table key increment default there)
+  counted_told table key increment default there h k l =
+      let additions = additions_of table.position increment in
+      part_set n table.position key (all_added additions (start_of default there)) h (added_told additions (start_of default there) (start_told default there k l))
 
   -- ---- walks and items
 
@@ -138,12 +165,16 @@ module _ (n : ℕ) where
   heir_named None h = tt
   heir_named (Some x) h = h.0
 
-  item_told : (v : Contents) (f : Found) (o : Option Item) → TableTold n f.table → IsTold n (item_value v f o)
-  item_told v f None h = tt
-  item_told v f (Some items.Owner) h = h.0
-  item_told v f (Some items.Heir) h = process_told _ (heir_pid f.table.heir) (heir_named f.table.heir h.1)
-  item_told v f (Some items.NamedTable) h = truth_told f.table.is_named
-  item_told v f (Some item) h = tt
+  table_item_told : (v : Contents) (f : Found) (o : Option Item) → TableTold n f.table → IsTold n (item_value v f o)
+  table_item_told v f None h = tt
+  table_item_told v f (Some items.Owner) h = h.0
+  table_item_told v f (Some items.Heir) h = process_told _ (heir_pid f.table.heir) (heir_named f.table.heir h.1)
+  table_item_told v f (Some items.NamedTable) h = truth_told f.table.is_named
+  table_item_told v f (Some item) h = tt
+
+  pairs_told : (v : Contents) (f : Found) (xs : List (Name × Item)) → TableTold n f.table → EachTold n (map (item_pair v f) xs)
+  pairs_told v f [] h = tt
+  pairs_told v f (x ∷ xs) h = (tuple_told n (atom x.0 ∷ item_value v f (Some x.1) ∷ []) (tt, (table_item_told v f (Some x.1) h, tt)), pairs_told v f xs h)
 
   -- ---- calls of tables
 
@@ -188,11 +219,15 @@ module _ (n : ℕ) where
     table_told p f (DeleteObject object) t h = (tt, removes_told f object h)
     table_told p f DeleteAll t h = (tt, (tt, tt))
     table_told p f (Take key) t h = (tuples_told n (v (Row f.ref key)) (cells (Row f.ref key)), ((h, tt), tt))
-    table_told p f (UpdateCounter key increment) t h = (tt, ((h, tt), tt))
-    table_told p f (UpdateElement key change) t h = (truth_told _, alters_told f.ref key change h.0 h.1)
+    table_told p f (UpdateCounter key increment default) t h =
+        let there = v (Row f.ref key) in
+        let additions = additions_of f.table.position increment in
+        (answered_told increment (sums_in additions (start_of default there)) (sums_told additions (start_of default there)), ((h.0, counted_told f.table key increment default there h.0 h.1 (cells (Row f.ref key))), tt))
+    table_told p f (UpdateElement key changes) t h = (truth_told _, alters_told f key changes (v (Row f.ref key)) h.0 h.1 (cells (Row f.ref key)))
     table_told p f (GiveAway to gift_) t h = (tt, gives_told f to gift_ t h.0 h.1)
     table_told p f (SetOptions heirs) t h = (tt, all_heirs_told f.ref (given heirs) (given_told (HeirTold n) heirs h))
-    table_told p f (Info item) t h = (item_told v f item t, tt)
+    table_told p f (Info item) t h = (table_item_told v f item t, tt)
+    table_told p f InfoAll t h = (list_told n (map (item_pair v f) known_items) (pairs_told v f known_items t), tt)
 
     -- ---- what is found
 
@@ -275,8 +310,38 @@ module _ (n : ℕ) where
     to_alias p ref None m h k = (k, tt)
     to_alias p ref (Some to) m h k = (k, put_told (v (Alive to)) p to (Guarded ref m) h k)
 
-    unalias_told : (ref : Ref) (b : Bool) → LineTold (unalias_line ref b).answer (unalias_line ref b).changes
-    unalias_told ref b = (truth_told b, ends_told b (GuardCleared ref ∷ []) [] (tt, tt) tt)
+    alias_gone : (ref : Ref) (o : Option Name) → ChangesTold n (alias_goes ref o)
+    alias_gone ref None = (tt, tt)
+    alias_gone ref (Some name) = (tt, tt)
+
+    unalias_told : (ref : Ref) (b : Bool) (o : Option Name) → LineTold (unalias_line ref b o).answer (unalias_line ref b o).changes
+    unalias_told ref b o = (truth_told b, ends_told b (alias_goes ref o) [] (alias_gone ref o) tt)
+
+    -- ---- watches by name, and what is told of processes and of names
+
+    named_told : (p : Pid) (name : Name) (ref : Ref) (alias : Option AliasEnd) (o : Option Pid) → IsNumbered n p → IfThere (IsNumbered n) o → LineTold (named_line v p name ref alias o).answer (named_line v p name ref alias o).changes
+    named_told p name ref alias None mine h = (tt, (tt, (tt, (tt, gone_is_told false p p ref mine))))
+    named_told p name ref alias (Some q) mine h = (tt, (tt, (tt, (tt, gone_is_told (v (Alive q)) p q ref h))))
+
+    own_name_told : (o : Option Name) → IsTold n (name_told o)
+    own_name_told None = tt
+    own_name_told (Some name) = (tt, (tt, tt))
+
+    item_is_told : (q : Pid) (item : ProcessItem) → IsTold n (item_told v q item)
+    item_is_told q RegisteredName = own_name_told (v (NameOf q))
+    item_is_told q QueueLength = (tt, (tt, tt))
+
+    told_or : (b : Bool) (m : Meaning) → IsTold n m → IsTold n (if b then m else undefined)
+    told_or true m h = h
+    told_or false m h = tt
+
+    info_told : (b : Bool) (p q : Pid) (item : ProcessItem) → LineTold (info_line b v p q item).answer (info_line b v p q item).changes
+    info_told true p q item = (item_is_told p item, tt)
+    info_told false p q item = (told_or (v (Alive q)) (item_told v q item) (item_is_told q item), tt)
+
+    names_are_told : (names : List Name) → IsTold n (list_of (map atom names))
+    names_are_told [] = tt
+    names_are_told (name ∷ names) = (tt, names_are_told names)
 
     -- ---- timers
 
@@ -340,6 +405,8 @@ module _ (n : ℕ) where
     line_told p (Send (ToProcess q) m) mine most h = (h, sent_told (same_pid p q) p q m mine h)
     line_told p (Send (ToReference ref) m) mine most h = to_alias p ref (aliased (v (Guard ref))) m mine h
     line_told p (Send (ToName name) m) mine most h = (h, to_holder p (v (Holder name)) m mine h)
+    line_told p (Send (ToNode name) m) mine most h = (h, to_holder p (v (Holder name)) m mine h)
+    line_told p (Send ToAnotherNode m) mine most h = (h, tt)
     line_told p (SendExit None reason) mine most h = (tt, tt)
     line_told p (SendExit (Some q) reason) mine most h = (tt, exited_told (same_pid p q) p q reason mine h)
     line_told p (Link None) mine most h = (tt, tt)
@@ -353,6 +420,9 @@ module _ (n : ℕ) where
     line_told p (Monitor true (Some q) (Some alias)) mine most h =
         let begun = alias_beside (same_pid p q) alias in
         (tt, (tt, (tt, both_told n (alias_begins p (next_ref v p) begun) _ (alias_told p (next_ref v p) begun) (gone_is_told (v (Alive q)) p q (next_ref v p) h))))
+    line_told p (MonitorName false name alias) mine most h = (tt, tt)
+    line_told p (MonitorName true name None) mine most h = (tt, tt)
+    line_told p (MonitorName true name (Some alias)) mine most h = named_told p name (next_ref v p) alias (v (Holder name)) mine (cells (Holder name))
     line_told p (Demonitor None flushes) mine most h = (tt, tt)
     line_told p (Demonitor (Some ref) None) mine most h = (tt, tt)
     line_told p (Demonitor (Some ref) (Some flushes)) mine most h =
@@ -367,13 +437,17 @@ module _ (n : ℕ) where
     line_told p (Unregister (Some name)) mine most h = unregister_told name (v (Holder name))
     line_told p (WhereIs None) mine most h = (tt, tt)
     line_told p (WhereIs (Some name)) mine most h = (process_told _ (v (Holder name)) (cells (Holder name)), tt)
+    line_told p Registered mine most h = (names_are_told (keys (v Holders)), tt)
     line_told p (IsAlive None) mine most h = (tt, tt)
     line_told p (IsAlive (Some q)) mine most h = (truth_told (v (Alive q)), tt)
+    line_told p (ProcessInfo None item) mine most h = (tt, tt)
+    line_told p (ProcessInfo (Some q) None) mine most h = (tt, tt)
+    line_told p (ProcessInfo (Some q) (Some item)) mine most h = info_told (same_pid p q) p q item
     line_told p MakeRef mine most h = (tt, tt)
     line_told p (MakeAlias None) mine most h = (tt, tt)
     line_told p (MakeAlias (Some end)) mine most h = (tt, (tt, tt))
     line_told p (Unalias None) mine most h = (tt, tt)
-    line_told p (Unalias (Some ref)) mine most h = unalias_told ref (is_alias_of p (v (Guard ref)))
+    line_told p (Unalias (Some ref)) mine most h = unalias_told ref (is_alias_of p (v (Guard ref))) (watch_name (v (Guard ref)))
     line_told p (StartTimer is_named None None m) mine most h = (tt, tt)
     line_told p (StartTimer is_named (Some time) None m) mine most h = (tt, tt)
     line_told p (StartTimer is_named None (Some q) m) mine most h = (tt, tt)

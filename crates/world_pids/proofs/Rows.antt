@@ -11,7 +11,7 @@ use Rattle.term_core.proofs.Pieces.{all-append}
 use Rattle.term_core.specs.Meaning.{Meaning}
 use Rattle.term_core.specs.Order.{order_of_terms}
 use Rattle.world_model.proofs.RowLaws.{keys_total, keys_apart}
-use Rattle.world_model.specs.Rows.{Key, Object, Rows, RowChange, Stores, Removes, Clears, Alters, same_object, part_at, with_part, tuples, stored, altered, rewritten, listed, under, with_row, rows_rewritten, joined, all_objects}
+use Rattle.world_model.specs.Rows.{Key, Object, Rows, RowChange, Stores, Removes, Clears, same_object, part_at, with_part, with_parts, tuples, stored, rewritten, listed, under, with_row, rows_rewritten, joined, all_objects}
 use Rattle.world_model.specs.Terms.{tuple, list_of}
 use Rattle.world_model.specs.declared.table.Kind.{Kind}
 use Rattle.world_model.specs.declared.table.Kind.TheVariants.{Set, OrderedSet, Bag, DuplicateBag}
@@ -58,7 +58,6 @@ module _ (n : ℕ) where
   WritesTold (Stores kind object) = EachTold n object
   WritesTold (Removes object) = Unit {0}
   WritesTold Clears = Unit {0}
-  WritesTold (Alters position value) = IsTold n value
 
   -- ---- under one key
 
@@ -68,19 +67,21 @@ module _ (n : ℕ) where
   stored_told Bag object there h k = chosen ObjectsTold (list_any (same_object object) there) there (there ++ (object ∷ [])) k (all-append (EachTold n) there (object ∷ []) k (h, tt))
   stored_told DuplicateBag object there h k = all-append (EachTold n) there (object ∷ []) k (h, tt)
 
-  part_set : (position : ℕ) (value : Meaning) (object : Object) → IsTold n value → EachTold n object → EachTold n (with_part position value object)
+  pub part_set : (position : ℕ) (value : Meaning) (object : Object) → IsTold n value → EachTold n object → EachTold n (with_part position value object)
   part_set position value [] h k = tt
   part_set position value (y ∷ ys) h k = chosen (EachTold n) (position == 1) (value ∷ ys) (y ∷ with_part (position - 1) value ys) (h, k.1) (k.0, part_set (position - 1) value ys h k.1)
 
-  altered_told : (position : ℕ) (value : Meaning) (there : List Object) → IsTold n value → ObjectsTold there → ObjectsTold (altered position value there)
-  altered_told position value [] h k = tt
-  altered_told position value (object ∷ objects) h k = (part_set position value object h k.0, k.1)
+  abbrev pub PartTold : ℕ × Meaning → Type 0
+  PartTold part = IsTold n part.1
+
+  pub parts_set : (parts : List (ℕ × Meaning)) (object : Object) → AllByRecursion PartTold parts → EachTold n object → EachTold n (with_parts parts object)
+  parts_set [] object h k = k
+  parts_set (part ∷ parts) object h k = parts_set parts (with_part part.0 part.1 object) h.1 (part_set part.0 part.1 object h.0 k)
 
   pub rewritten_told : (change : RowChange) (there : List Object) → WritesTold change → ObjectsTold there → ObjectsTold (rewritten change there)
   rewritten_told (Stores kind object) there h k = stored_told kind object there h k
   rewritten_told (Removes object) there h k = all_filtered (EachTold n) (λ x. not (same_object object x)) there k
   rewritten_told Clears there h k = tt
-  rewritten_told (Alters position value) there h k = altered_told position value there h k
 
   -- ---- all rows
 

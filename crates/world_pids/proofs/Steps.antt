@@ -12,12 +12,12 @@ use Rattle.world_model.specs.Cells.{Contents, Machine, Alive, Trap, Links, Watch
 use Rattle.world_model.specs.Changes.{AliveCleared, after, changed, without_first}
 use Rattle.world_model.specs.Ends.{living_heir, passed, table_passes, tables_pass, partners_told, watchers_told, name_left, left_by, ends}
 use Rattle.world_model.specs.Events.{Signal, Message, Exit, LinkExit, Down, Guarded, Elapsed, Fate, Arrives, IsIgnored, IsDropped, Kills, Refusal, Deed}
-use Rattle.world_model.specs.Guards.{is_alias_of, ends_by_reply, timer_in}
+use Rattle.world_model.specs.Guards.{is_alias_of, ends_by_reply, timer_in, watch_name}
 use Rattle.world_model.specs.Lines.{line}
 use Rattle.world_model.specs.Mailboxes.{left_of, mailbox_in, selected_of}
 use Rattle.world_model.specs.Names.{Name, Pid, Ref, same_pid, same_term}
 use Rattle.world_model.specs.Requests.{Origin, Request, Calls, Receives, Ends, RunsAway, Program}
-use Rattle.world_model.specs.Signals.{put_if, is_normal, exit_message, down_message, as_exit, exit_fate, link_fate, down_fate, guarded_fate, fate_of, goes_with, first_of, waiting_in}
+use Rattle.world_model.specs.Signals.{put_if, is_normal, exit_message, down_message, as_exit, exit_fate, link_fate, down_fate, guarded_fate, watched_as, fate_of, goes_with, first_of, waiting_in}
 use Rattle.world_model.specs.Steps.{killing, ends_itself, must_wait, judged, ended_or, deed_of_call, received, deed_asked, asked, runaway, changes_of_turn, deed_delivered, changes_of_fate, next_deed, changes_by}
 use Rattle.world_model.specs.Tables as tables
 use Rattle.world_model.specs.Tables.{Heir, handle_of}
@@ -104,8 +104,12 @@ module _ (n : ℕ) where
   link_told : (stands traps : Bool) (s : Pid) (reason : Meaning) → IsNumbered n s → IsTold n reason → FateTold (link_fate stands traps s reason)
   link_told stands traps s reason h k = chosen FateTold stands (as_exit traps false s reason) IsDropped (as_exit_told traps false s reason h k) tt
 
-  down_told : (o : Option Pid) (ref : Ref) (s : Pid) (reason : Meaning) → IsNumbered n s → IsTold n reason → FateTold (down_fate o ref s reason)
-  down_told o ref s reason h k = chosen FateTold (is_some o) (Arrives (down_message ref s reason)) IsDropped (tt, (tt, (tt, (h, (k, tt))))) tt
+  who_told : (s : Pid) (o : Option Name) → IsNumbered n s → IsTold n (watched_as s o)
+  who_told s None h = h
+  who_told s (Some name) h = (tt, (tt, tt))
+
+  down_told : (o : Option Pid) (ref : Ref) (who reason : Meaning) → IsTold n who → IsTold n reason → FateTold (down_fate o ref who reason)
+  down_told o ref who reason h k = chosen FateTold (is_some o) (Arrives (down_message ref who reason)) IsDropped (tt, (tt, (tt, (h, (k, tt))))) tt
 
   guarded_told : (b : Bool) (m : Meaning) → IsTold n m → FateTold (guarded_fate b m)
   guarded_told b m h = chosen FateTold b (Arrives m) IsDropped h tt
@@ -114,7 +118,7 @@ module _ (n : ℕ) where
   fate_told v s r (Message m) h = h.1
   fate_told v s r (Exit reason) h = exit_told (v (Trap r)) false s reason h.0 h.1
   fate_told v s r (LinkExit reason) h = link_told (list_any (same_pid s) (v (Links r))) (v (Trap r)) s reason h.0 h.1
-  fate_told v s r (Down ref reason) h = down_told (v (Watch ref)) ref s reason h.0 h.1
+  fate_told v s r (Down ref reason) h = down_told (v (Watch ref)) ref (watched_as s (watch_name (v (Guard ref)))) reason (who_told s (watch_name (v (Guard ref))) h.0) h.1
   fate_told v s r (Guarded ref m) h = guarded_told (is_alias_of r (v (Guard ref))) m h.1
   fate_told v s r (Elapsed ref m) h = guarded_told (is_some (timer_in (v (Guard ref)))) m h.1
 

@@ -7,23 +7,24 @@ use Rattle.term_core.specs.declared.term.Term.{Term}
 use Rattle.proc_links.specs.Links.{way_of}
 use Rattle.proc_links.specs.declared.links.Linking.{Linking}
 use Rattle.proc_links.specs.declared.links.Linking.TheVariants.{Stands, Pairs, PairsGone, Fails}
-use Rattle.world_model.specs.Calls.{Call, CancelTimer, Demonitor, Link, MakeAlias, Monitor, ReadTimer, Register, Send, SendExit, Spawn, SpawnWay, StartTimer, ToName, ToReference, Unalias, Unregister}
+use Rattle.world_model.specs.Calls.{Call, CancelTimer, Demonitor, Link, MakeAlias, Monitor, ReadTimer, Register, Send, SendExit, Spawn, SpawnWay, StartTimer, ToName, ToReference, Unalias, Unregister, MonitorName, ProcessInfo, ToNode}
 use Rattle.world_model.specs.Cells as cells
 use Rattle.world_model.specs.Cells.{Cell, Contents}
 use Rattle.world_model.specs.Changes.{Change, NameCleared, NameSet, MachineStarted, AliveCleared, GuardCleared, GuardSet, HolderSet, AliveSet, HolderCleared, changed, is_of_watch}
 use Rattle.world_model.specs.Ends.{left_by, reads_of_end}
 use Rattle.world_model.specs.Events as events
 use Rattle.world_model.specs.Guards as guards
-use Rattle.world_model.specs.Guards.{Alias, Timer, aliased, is_alias_of, timer_in}
+use Rattle.world_model.specs.Guards.{Alias, Timer, aliased, is_alias_of, timer_in, watch_name}
 use Rattle.world_model.specs.Lines.{line}
 use Rattle.world_model.specs.Mailboxes.{mailbox_in, selected_of}
 use Rattle.world_model.specs.Names.{Name, Pid, Ref, same_pid}
-use Rattle.world_model.specs.ProcessLines.{alias_begins, alias_beside, bound, child_told, demonitor_reads, flushed, gone_told, holder_read, is_undefined, link_changes, link_refusal, link_way, next_child, next_ref, read_of_target, reads_to_flush, register_refusal, send_line, sent, sent_to_holder, time_left, timer_ends, timer_message, timer_reads, told_left, unless_held, unregister_line, watch_begins, watch_ends}
+use Rattle.world_model.specs.ProcessLines.{alias_begins, alias_beside, bound, child_told, demonitor_reads, flushed, gone_told, holder_read, is_undefined, link_changes, link_refusal, link_way, next_child, next_ref, read_of_target, reads_to_flush, register_refusal, send_line, sent, sent_to_holder, time_left, timer_ends, timer_message, timer_reads, told_left, unless_held, unregister_line, watch_begins, watch_ends, alias_goes, info_line, named_begins, named_line}
 use Rattle.world_model.specs.Requests.{Origin}
 use Rattle.world_model.specs.Signals.{put_if}
 use Rattle.world_model.specs.Steps.{ends_itself, own_end, reads_if_ended, reads_of_call}
 use Rattle.world_model.specs.Terms.{ok, reference, truth}
 use Rattle.world_model.specs.declared.alias.AliasEnd.{AliasEnd}
+use Rattle.world_model.specs.declared.process.ProcessItem.{ProcessItem}
 use Rattle.world_planned.specs.inside.Planned.{Adds}
 use Rattle.world_planned.specs.Replies.{refusal_in}
 use Rattle.world_planned.specs.inside.PlannedCalls.{IsPlanned}
@@ -116,6 +117,37 @@ link_serves v p q linking answer f g is way answered adds =
 
 -- ---- watches
 
+-- a message to a name at the own node, which somebody has or nobody
+pub nobody_serves : (v : Contents) (p : Pid) (name : Name) (message : Meaning) (answer : Term) (f g : Planned) → None ≡ v (cells.Holder name) → meaning_of answer ≡ message → Adds (cells.Holder name ∷ []) [] f g → IsPlanned v p (Send (ToNode name) message) (Served answer) f g
+nobody_serves v p name message answer f g held answered adds =
+    let call = Send (ToNode name) message in
+    serves v p call answer f g refl refl answered
+    (adds_as (cells.Holder name ∷ []) (line v p call).reads [] (line v p call).changes f g (ap (λ h. cells.Holder name ∷ holder_read p h) held) (ap (λ h. sent_to_holder v p h message) held) adds)
+
+pub node_serves : (v : Contents) (p to : Pid) (name : Name) (message : Meaning) (answer : Term) (f g : Planned) → Some to ≡ v (cells.Holder name) → meaning_of answer ≡ message
+    → Adds (cells.Holder name ∷ read_of_target (same_pid p to) p to) (sent (same_pid p to) v p to message) f g → IsPlanned v p (Send (ToNode name) message) (Served answer) f g
+node_serves v p to name message answer f g held answered adds =
+    let call = Send (ToNode name) message in
+    serves v p call answer f g refl refl answered
+    (adds_as (cells.Holder name ∷ read_of_target (same_pid p to) p to) (line v p call).reads (sent (same_pid p to) v p to message) (line v p call).changes f g (ap (λ h. cells.Holder name ∷ holder_read p h) held) (ap (λ h. sent_to_holder v p h message) held) adds)
+
+-- a watch of a name that somebody has, or nobody
+pub holder_serves : (v : Contents) (p q : Pid) (name : Name) (ref : Ref) (alias : Option AliasEnd) (answer : Term) (f g : Planned) → Some q ≡ v (cells.Holder name) → ref ≡ next_ref v p → meaning_of answer ≡ reference ref
+    → Adds (cells.Holder name ∷ cells.Alive q ∷ []) (named_begins p name ref q (v (cells.Alive q)) (alias_beside (same_pid p q) alias)) f g → IsPlanned v p (MonitorName true name (Some alias)) (Served answer) f g
+holder_serves v p q name ref alias answer f g held is answered adds =
+    let call = MonitorName true name (Some alias) in
+    serves v p call answer f g refl (ap (λ h. (named_line v p name (next_ref v p) alias h).refusal) (sym held)) (answered ∙ ap reference is ∙ ap (λ h. (named_line v p name (next_ref v p) alias h).answer) held)
+    (adds_as (cells.Holder name ∷ cells.Alive q ∷ []) (line v p call).reads (named_begins p name ref q (v (cells.Alive q)) (alias_beside (same_pid p q) alias)) (line v p call).changes f g
+    (ap (λ h. (named_line v p name (next_ref v p) alias h).reads) held) (ap (λ r. named_begins p name r q (v (cells.Alive q)) (alias_beside (same_pid p q) alias)) is ∙ ap (λ h. (named_line v p name (next_ref v p) alias h).changes) held) adds)
+
+pub no_holder_serves : (v : Contents) (p : Pid) (name : Name) (ref : Ref) (alias : Option AliasEnd) (answer : Term) (f g : Planned) → None ≡ v (cells.Holder name) → ref ≡ next_ref v p → meaning_of answer ≡ reference ref
+    → Adds (cells.Holder name ∷ []) (named_begins p name ref p false alias) f g → IsPlanned v p (MonitorName true name (Some alias)) (Served answer) f g
+no_holder_serves v p name ref alias answer f g held is answered adds =
+    let call = MonitorName true name (Some alias) in
+    serves v p call answer f g refl (ap (λ h. (named_line v p name (next_ref v p) alias h).refusal) (sym held)) (answered ∙ ap reference is ∙ ap (λ h. (named_line v p name (next_ref v p) alias h).answer) held)
+    (adds_as (cells.Holder name ∷ []) (line v p call).reads (named_begins p name ref p false alias) (line v p call).changes f g
+    (ap (λ h. (named_line v p name (next_ref v p) alias h).reads) held) (ap (λ r. named_begins p name r p false alias) is ∙ ap (λ h. (named_line v p name (next_ref v p) alias h).changes) held) adds)
+
 pub watch_serves : (v : Contents) (p q : Pid) (ref : Ref) (lives : Bool) (alias : Option AliasEnd) (answer : Term) (f g : Planned) → ref ≡ next_ref v p → lives ≡ v (cells.Alive q) → meaning_of answer ≡ reference ref
     → Adds (cells.Alive q ∷ []) (watch_begins ref q ++ (alias_begins p ref (alias_beside (same_pid p q) alias) ++ gone_told lives p q ref)) f g → IsPlanned v p (Monitor true (Some q) (Some alias)) (Served answer) f g
 watch_serves v p q ref lives alias answer f g is so answered adds =
@@ -166,11 +198,28 @@ alias_serves v p ref end answer f g is answered adds =
     let l = line v p (MakeAlias (Some end)) in
     serves v p (MakeAlias (Some end)) answer f g refl refl (answered ∙ ap reference is) (adds_as [] [] (GuardSet ref (Alias p end) ∷ []) l.changes f g refl (ap (λ r. GuardSet r (Alias p end) ∷ []) is) adds)
 
-pub unalias_serves : (v : Contents) (p : Pid) (ref : Ref) (stands : Bool) (answer : Term) (f g : Planned) → stands ≡ is_alias_of p (v (cells.Guard ref)) → meaning_of answer ≡ truth stands
-    → Adds (cells.Guard ref ∷ []) (if stands then GuardCleared ref ∷ [] else []) f g → IsPlanned v p (Unalias (Some ref)) (Served answer) f g
-unalias_serves v p ref stands answer f g is answered adds =
+pub unalias_serves : (v : Contents) (p : Pid) (ref : Ref) (stands : Bool) (name : Option Name) (answer : Term) (f g : Planned) → stands ≡ is_alias_of p (v (cells.Guard ref)) → name ≡ watch_name (v (cells.Guard ref)) → meaning_of answer ≡ truth stands
+    → Adds (cells.Guard ref ∷ []) (if stands then alias_goes ref name else []) f g → IsPlanned v p (Unalias (Some ref)) (Served answer) f g
+unalias_serves v p ref stands name answer f g is named answered adds =
     let l = line v p (Unalias (Some ref)) in
-    serves v p (Unalias (Some ref)) answer f g refl refl (answered ∙ ap truth is) (adds_as (cells.Guard ref ∷ []) l.reads (if stands then GuardCleared ref ∷ [] else []) l.changes f g refl (ap (λ (b : Bool). if b then GuardCleared ref ∷ [] else []) is) adds)
+    serves v p (Unalias (Some ref)) answer f g refl refl (answered ∙ ap truth is) (adds_as (cells.Guard ref ∷ []) l.reads (if stands then alias_goes ref name else []) l.changes f g refl (λ i. if is i then alias_goes ref (named i) else []) adds)
+
+-- ---- what is told of a process
+
+info_unrefused : (b : Bool) (v : Contents) (p q : Pid) (item : ProcessItem) → (info_line b v p q item).refusal ≡ None
+info_unrefused true v p q item = refl
+info_unrefused false v p q item = refl
+
+info_unchanged : (b : Bool) (v : Contents) (p q : Pid) (item : ProcessItem) → [] ≡ (info_line b v p q item).changes
+info_unchanged true v p q item = refl
+info_unchanged false v p q item = refl
+
+pub info_serves : (v : Contents) (p q : Pid) (item : ProcessItem) (own : Bool) (answer : Term) (f g : Planned) → own ≡ same_pid p q → meaning_of answer ≡ (info_line own v p q item).answer → Adds (info_line own v p q item).reads [] f g
+    → IsPlanned v p (ProcessInfo (Some q) (Some item)) (Served answer) f g
+info_serves v p q item own answer f g is answered adds =
+    let call = ProcessInfo (Some q) (Some item) in
+    serves v p call answer f g refl (info_unrefused (same_pid p q) v p q item) (answered ∙ ap (λ b. (info_line b v p q item).answer) is)
+    (adds_as (info_line own v p q item).reads (line v p call).reads [] (line v p call).changes f g (ap (λ b. (info_line b v p q item).reads) is) (info_unchanged (same_pid p q) v p q item) adds)
 
 -- ---- timers
 

@@ -10,7 +10,8 @@ use Rattle.world_model.specs.Changes.{after}
 use Rattle.world_model.specs.Events.{Arrives, IsDropped, Kills, Signal, Message, Exit, LinkExit, Down, Guarded, Elapsed}
 use Rattle.world_model.specs.Guards.{is_alias_of, timer_in}
 use Rattle.world_model.specs.Names.{Pid}
-use Rattle.world_model.specs.Signals.{fate_of, goes_with, down_message}
+use Rattle.world_model.specs.Guards.{watch_name}
+use Rattle.world_model.specs.Signals.{fate_of, goes_with, down_message, watched_as}
 use Rattle.world_records.specs.Records.{Agrees}
 use Rattle.world_records.specs.declared.records.Records.{Records}
 use Rattle.world_planned.specs.inside.Seen.{SeesEnd}
@@ -41,6 +42,6 @@ sees_killed m records links v s r (LinkExit x) reason told kills links_are_ = re
   owned = told.tables_are.are.owned;
   tables = told.tables_are.are.tables;
 }
-sees_killed m records links v s r (Down ref x) reason told kills links_are_ = absurd (no_kill (is_some (v (cells.Watch ref))) (down_message ref s x) reason kills)
+sees_killed m records links v s r (Down ref x) reason told kills links_are_ = absurd (no_kill (is_some (v (cells.Watch ref))) (down_message ref (watched_as s (watch_name (v (cells.Guard ref)))) x) reason kills)
 sees_killed m records links v s r (Guarded ref x) reason told kills links_are_ = absurd (no_kill (is_alias_of r (v (cells.Guard ref))) x reason kills)
 sees_killed m records links v s r (Elapsed ref x) reason told kills links_are_ = absurd (no_kill (is_some (timer_in (v (cells.Guard ref)))) x reason kills)

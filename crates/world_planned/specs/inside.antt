@@ -1,4 +1,5 @@
 pub mod Messages
+pub mod NamedWatches
 pub mod Outliving
 pub mod Planned
 pub mod PlannedCalls

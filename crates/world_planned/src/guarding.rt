@@ -1,10 +1,8 @@
 // Aliases that end by a message that comes through them (Erlang manual, `alias/1`, `monitor/3`).
-ghost use Rattle.std.specs.Prelude.{◌≡◌, ◌∷◌, [], OnOk, option_copied};
-ghost use Rattle.world_model.specs.Cells as cells;
-ghost use Rattle.world_model.specs.Changes as changes;
-ghost use Rattle.world_model.specs.Guards.{ends_by_reply};
+ghost use Rattle.std.specs.Prelude.{[], OnOk, option_copied};
 ghost use Rattle.world_model.specs.Names.{ref_of};
-ghost use Rattle.world_model.specs.Signals.{reply_ends, watch_goes, watch_if};
+ghost use Rattle.world_model.specs.Signals.{watch_goes};
+ghost use Rattle.world_planned.specs.inside.Messages.{PlansEnded, PlansReplied};
 ghost use Rattle.world_planned.specs.inside.Planned.{Adds};
 ghost use Rattle.world_records.specs.Records.{OfWorld};
 
@@ -34,7 +32,7 @@ fn end_alias(
     reference: &RefId,
     planned: &mut Planned,
 ) -> Result<(), AllocError>
-    ensures { OnOk result (OfWorld records.now (λ m v. Adds (cells.Watch (ref_of reference.now) ∷ []) (changes.GuardCleared (ref_of reference.now) ∷ watch_goes (ref_of reference.now) (v (cells.Watch (ref_of reference.now)))) planned.old planned.new)) }
+    ensures { OnOk result (OfWorld records.now (λ m v. PlansEnded v (ref_of reference.now) planned.old planned.new)) }
 {
     planned.read_reference(ReferencePart::Watch, reference)?;
     planned.change(Change::GuardCleared(reference.copy()?))?;
@@ -50,7 +48,7 @@ pub fn reply(
     reference: &RefId,
     planned: &mut Planned,
 ) -> Result<(), AllocError>
-    ensures { OnOk result (OfWorld records.now (λ m v. Adds (watch_if (ends_by_reply pid.now (v (cells.Guard (ref_of reference.now)))) (ref_of reference.now)) (reply_ends (ends_by_reply pid.now (v (cells.Guard (ref_of reference.now)))) (ref_of reference.now) (v (cells.Watch (ref_of reference.now)))) planned.old planned.new)) }
+    ensures { OnOk result (OfWorld records.now (λ m v. PlansReplied v pid.now (ref_of reference.now) planned.old planned.new)) }
 {
     if ends_by_reply(records, reference, pid) {
         end_alias(records, reference, planned)?;

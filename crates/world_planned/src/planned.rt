@@ -127,6 +127,13 @@ impl Planned {
         self.read(Cell::Rows(id.copy()?))
     }
 
+    /// Who holds any name is read. `AllocError` if there is no memory.
+    pub fn read_holders(&mut self) -> Result<(), AllocError>
+        ensures { OnOk result (Adds (cells.Holders ∷ []) [] self.old self.new) }
+    {
+        self.read(Cell::Holders)
+    }
+
     /// A cell of a process counts as written, and holds what it did. `AllocError` if there is no memory.
     pub fn touch_process(&mut self, part: ProcessPart, pid: &Pid) -> Result<(), AllocError>
         ensures { OnOk result (Adds [] (touched.CellTouched (process_cell part pid.now) ∷ []) self.old self.new) }

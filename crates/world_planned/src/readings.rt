@@ -1,6 +1,6 @@
 // What the records of a world say of single cells. None of this takes memory.
 ghost use Rattle.std.specs.List.{list_any};
-ghost use Rattle.std.specs.Prelude.{◌≡◌, true, option_copied, option_map};
+ghost use Rattle.std.specs.Prelude.{◌≡◌, ◌<◌, ◌^◌, length, true, option_copied, option_map};
 ghost use Rattle.proc_links.specs.Guards.{guard_of};
 ghost use Rattle.proc_links.specs.Process.{are_trapped, is_alive};
 ghost use Rattle.proc_machines.specs.Processes.{lives_in};
@@ -9,7 +9,7 @@ ghost use Rattle.term_core.specs.Term.{meaning_of};
 ghost use Rattle.world_model.specs.Cells as cells;
 ghost use Rattle.world_model.specs.Cells.{Contents};
 ghost use Rattle.world_model.specs.Changes.{AliveCleared, changed, is_of_watch};
-ghost use Rattle.world_model.specs.Guards.{aliased, ends_by_reply, is_alias_of};
+ghost use Rattle.world_model.specs.Guards.{aliased, ends_by_reply, is_alias_of, watch_name};
 ghost use Rattle.world_model.specs.Mailboxes.{mailbox_in, selected_of};
 ghost use Rattle.world_model.specs.Names as names;
 ghost use Rattle.world_model.specs.Names.{same_pid, ref_of};
@@ -94,6 +94,13 @@ pub fn holder<'r>(records: &'r Records<'_>, name: &Atom) -> Option<&'r Pid>
     records.names().whereis(name)
 }
 
+/// Which name a process has.
+pub fn name_of<'r>(records: &'r Records<'_>, pid: &Pid) -> Option<&'r Atom>
+    ensures { OfWorld records.now (λ m v. option_copied result ≡ v (cells.NameOf pid.now)) }
+{
+    records.names().name_of(pid)
+}
+
 /// The process that a reference watches.
 pub fn watched<'r>(records: &'r Records<'_>, reference: &RefId) -> Option<&'r Pid>
     ensures { OfWorld records.now (λ m v. option_copied result ≡ v (cells.Watch (ref_of reference.now))) }
@@ -113,6 +120,13 @@ pub fn aliased<'r>(records: &'r Records<'_>, reference: &RefId) -> Option<&'r Pi
     ensures { OfWorld records.now (λ m v. option_copied result ≡ aliased (v (cells.Guard (ref_of reference.now)))) }
 {
     records.guards().alias_of(reference)
+}
+
+/// The name by which the watch of a reference was made.
+pub fn watch_name<'r>(records: &'r Records<'_>, reference: &RefId) -> Option<&'r Atom>
+    ensures { OfWorld records.now (λ m v. option_copied result ≡ watch_name (v (cells.Guard (ref_of reference.now)))) }
+{
+    records.guards().watch_name(reference)
 }
 
 /// Whether a reference is an alias of a process.
@@ -143,5 +157,16 @@ pub fn down<'r>(records: &'r Records<'_>, pid: &Pid, reference: &RefId) -> Optio
     match records.mailboxes().of(pid) {
         Some(mailbox) => mailbox.down(reference),
         None => None,
+    }
+}
+
+/// How many messages are in the mailbox of a process, fewer than 2^63.
+pub fn queue_length(records: &Records<'_>, pid: &Pid) -> usize
+    ensures length { OfWorld records.now (λ m v. result ≡ length (mailbox_in v pid.now)) }
+    ensures fits { result < 2 ^ 63 }
+{
+    match records.mailboxes().of(pid) {
+        Some(mailbox) => mailbox.len(),
+        None => 0,
     }
 }

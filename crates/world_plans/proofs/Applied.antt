@@ -7,7 +7,7 @@ use Rattle.ets_rules.specs.Changes as rules
 use Rattle.ets_rules.proofs.Planning.{line_applies, new_applies}
 use Rattle.term_core.specs.Meaning.{Meaning}
 use Rattle.term_core.specs.declared.step.Step.TheVariants.{Turn, Deliver}
-use Rattle.world_model.specs.Calls.{Call, Spawn, SpawnWay, Alone, Linked, Watched, Send, ToNobody, ToProcess, ToName, ToReference, SendExit, Link, Unlink, Monitor, Demonitor, Flag, Register, Unregister, WhereIs, IsAlive, MakeRef, MakeAlias, Unalias, StartTimer, CancelTimer, ReadTimer, New, OnTable, Misfit, TableCall, First, call_of}
+use Rattle.world_model.specs.Calls.{Call, Spawn, SpawnWay, Alone, Linked, Watched, Send, ToNobody, ToProcess, ToName, ToReference, ToNode, ToAnotherNode, SendExit, Link, Unlink, Monitor, MonitorName, Demonitor, Flag, Register, Unregister, WhereIs, Registered, IsAlive, ProcessInfo, MakeRef, MakeAlias, Unalias, StartTimer, CancelTimer, ReadTimer, New, OnTable, Misfit, TableCall, First, call_of}
 use Rattle.world_model.specs.Cells as cells
 use Rattle.world_model.specs.Cells.{Contents}
 use Rattle.world_model.specs.Changes.{Change, RowWritten, TableSet, MessageTaken, OwnedCleared, AliveCleared, WatchCleared, WatcherRemoved, GuardCleared, GuardUnwatched, CellTouched, TableNameCleared, after, cell_of, changed, is_of_watch}
@@ -15,11 +15,11 @@ use Rattle.world_model.specs.Ends.{ends, left_by, living_heir, name_left, partne
 use Rattle.world_model.specs.Events.{Deed, Served, Refused, EndedItself, Received, TimedOut, Ended, RanAway, Delivered, Refusal, Signal, Message, Exit, LinkExit, Down, Guarded, Elapsed, Fate, Arrives, IsIgnored, IsDropped, Kills}
 use Rattle.world_model.specs.TableAccess.{Found, find}
 use Rattle.world_model.specs.TableRules.{found_line}
-use Rattle.world_model.specs.Guards.{aliased, ends_by_reply, is_alias_of, timer_in}
+use Rattle.world_model.specs.Guards.{aliased, ends_by_reply, is_alias_of, timer_in, watch_name}
 use Rattle.world_model.specs.Lines.{line}
 use Rattle.world_model.specs.Mailboxes.{mailbox_in, selected_of}
 use Rattle.world_model.specs.Names.{Name, Pid, Ref, same_pid, same_term}
-use Rattle.world_model.specs.ProcessLines.{LinkWay, Stands, Pairs, PairsGone, Fails, alias_begins, alias_beside, bound, exited, flushed, gone_told, link_changes, link_way, child_of, next_ref, ref_of_turn, send_line, sent, sent_to_holder, timer_message, unregister_line, watch_ends}
+use Rattle.world_model.specs.ProcessLines.{LinkWay, Stands, Pairs, PairsGone, Fails, alias_begins, alias_beside, bound, exited, flushed, gone_told, link_changes, link_way, child_of, next_ref, ref_of_turn, send_line, sent, sent_to_holder, timer_message, unregister_line, watch_ends, alias_goes, info_line, named_line}
 use Rattle.world_model.specs.Requests.{Calls, Ends, Program, Receives, Request, RunsAway}
 use Rattle.world_model.specs.Signals.{goes_with, put_if, reply_ends}
 use Rattle.world_model.specs.Steps.{asked, changes_of_fate, deed_asked, deed_of_call, ended_or, ends_itself, judged, must_wait, next_deed, received, runaway}
@@ -27,6 +27,7 @@ use Rattle.world_model.specs.TableLines.{table_line}
 use Rattle.world_model.specs.Tables as tables
 use Rattle.world_model.specs.Tables.{Heir}
 use Rattle.world_model.specs.declared.alias.AliasEnd.{AliasEnd}
+use Rattle.world_model.specs.declared.process.ProcessItem.{ProcessItem}
 use Rattle.world_model.proofs.MailboxLaws.{selected_there}
 use Rattle.world_model.proofs.Named.{found_there}
 use Rattle.world_model.proofs.SortLaws.{AllAmong, call_among, table_among}
@@ -228,6 +229,19 @@ found_applies : (v w : Contents) (p : Pid) (call : TableCall) (o : Option Found)
 found_applies v w p call None held = record {}
 found_applies v w p call (Some f) held = lifted (table_sorts call) w (table_line v p f call).changes (takes_none call) (table_among v p f call) (line_applies v w p f call (held f refl))
 
+named_plain : (v : Contents) (p : Pid) (name : Name) (ref : Ref) (alias : Option AliasEnd) (o : Option Pid) → all_plain (named_line v p name ref alias o).changes ≡ true
+named_plain v p name ref alias None = gone_plain false p p ref
+named_plain v p name ref alias (Some q) = gone_plain (v (cells.Alive q)) p q ref
+
+unaliased_plain : (b : Bool) (ref : Ref) (o : Option Name) → all_plain (if b then alias_goes ref o else []) ≡ true
+unaliased_plain true ref None = refl
+unaliased_plain true ref (Some name) = refl
+unaliased_plain false ref o = refl
+
+info_plain : (b : Bool) (v : Contents) (p q : Pid) (item : ProcessItem) → all_plain (info_line b v p q item).changes ≡ true
+info_plain true v p q item = refl
+info_plain false v p q item = refl
+
 -- ---- a call whose changes come after its turn was counted
 
 call_applies : (v w : Contents) (p : Pid) (call : Call) → ((t : Ref) → w (cells.Table t) ≡ v (cells.Table t)) → mailbox_in w p ≡ mailbox_in v p → v (cells.Table (next_ref v p)) ≡ None → CanApply w (line v p call).changes
@@ -237,6 +251,8 @@ call_applies v w p (Send ToNobody message) same mail new = record {}
 call_applies v w p (Send (ToProcess q) message) same mail new = plain_applies w (sent (same_pid p q) v p q message) (sent_plain (same_pid p q) v p q message)
 call_applies v w p (Send (ToReference ref) message) same mail new = plain_applies w (line v p (Send (ToReference ref) message)).changes (alias_plain v p ref (aliased (v (cells.Guard ref))) message)
 call_applies v w p (Send (ToName name) message) same mail new = plain_applies w (sent_to_holder v p (v (cells.Holder name)) message) (holder_plain v p (v (cells.Holder name)) message)
+call_applies v w p (Send (ToNode name) message) same mail new = plain_applies w (sent_to_holder v p (v (cells.Holder name)) message) (holder_plain v p (v (cells.Holder name)) message)
+call_applies v w p (Send ToAnotherNode message) same mail new = record {}
 call_applies v w p (SendExit None reason) same mail new = record {}
 call_applies v w p (SendExit (Some q) reason) same mail new = plain_applies w (exited (same_pid p q) v p q reason) (exited_plain (same_pid p q) v p q reason)
 call_applies v w p (Link None) same mail new = record {}
@@ -251,6 +267,9 @@ call_applies v w p (Monitor true (Some q) (Some alias)) same mail new =
     let ref = ref_of_turn p (v (cells.Machine p)) in
     let begun = alias_beside (same_pid p q) alias in
     plain_applies w (line v p (Monitor true (Some q) (Some alias))).changes (plain_both (alias_begins p ref begun) (gone_told (v (cells.Alive q)) p q ref) (begins_plain p ref begun) (gone_plain (v (cells.Alive q)) p q ref))
+call_applies v w p (MonitorName false name alias) same mail new = record {}
+call_applies v w p (MonitorName true name None) same mail new = record {}
+call_applies v w p (MonitorName true name (Some alias)) same mail new = plain_applies w (line v p (MonitorName true name (Some alias))).changes (named_plain v p name (next_ref v p) alias (v (cells.Holder name)))
 call_applies v w p (Demonitor None flushes) same mail new = record {}
 call_applies v w p (Demonitor (Some ref) None) same mail new = record {}
 call_applies v w p (Demonitor (Some ref) (Some flushes)) same mail new =
@@ -268,13 +287,17 @@ call_applies v w p (Unregister None) same mail new = record {}
 call_applies v w p (Unregister (Some name)) same mail new = plain_applies w (unregister_line name (v (cells.Holder name))).changes (unregister_plain name (v (cells.Holder name)))
 call_applies v w p (WhereIs None) same mail new = record {}
 call_applies v w p (WhereIs (Some name)) same mail new = record {}
+call_applies v w p Registered same mail new = record {}
 call_applies v w p (IsAlive None) same mail new = record {}
 call_applies v w p (IsAlive (Some q)) same mail new = record {}
+call_applies v w p (ProcessInfo None item) same mail new = record {}
+call_applies v w p (ProcessInfo (Some q) None) same mail new = record {}
+call_applies v w p (ProcessInfo (Some q) (Some item)) same mail new = plain_applies w (line v p (ProcessInfo (Some q) (Some item))).changes (info_plain (same_pid p q) v p q item)
 call_applies v w p MakeRef same mail new = record {}
 call_applies v w p (MakeAlias None) same mail new = record {}
 call_applies v w p (MakeAlias (Some end)) same mail new = (record {}, record {})
 call_applies v w p (Unalias None) same mail new = record {}
-call_applies v w p (Unalias (Some ref)) same mail new = plain_applies w (line v p (Unalias (Some ref))).changes (cleared_plain (is_alias_of p (v (cells.Guard ref))) ref)
+call_applies v w p (Unalias (Some ref)) same mail new = plain_applies w (line v p (Unalias (Some ref))).changes (unaliased_plain (is_alias_of p (v (cells.Guard ref))) ref (watch_name (v (cells.Guard ref))))
 call_applies v w p (StartTimer is_named time None message) same mail new = record {}
 call_applies v w p (StartTimer is_named None (Some q) message) same mail new = record {}
 call_applies v w p (StartTimer is_named (Some time) (Some q) message) same mail new =

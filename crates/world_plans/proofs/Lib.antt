@@ -1,5 +1,6 @@
 pub mod Apart
 pub mod Applied
+pub mod Asking
 pub mod Doing
 pub mod Parting
 pub mod Performed

@@ -4,7 +4,7 @@ use Rattle.std.specs.Prelude.{Result, Ok, Err, IfOk, OnOk}
 use Rattle.core_calls.specs.declared.call.CallKind.{CallKind}
 use Rattle.term_core.specs.Meaning.{Meaning}
 use Rattle.term_core.specs.declared.step.Step.TheVariants.{Turn, Deliver}
-use Rattle.world_model.specs.Calls.{Call, IsAlive, call_of}
+use Rattle.world_model.specs.Calls.{Call, IsAlive, ProcessInfo, call_of}
 use Rattle.world_model.specs.Cells as cells
 use Rattle.world_model.specs.Cells.{Cell, Contents}
 use Rattle.world_model.specs.Changes.{Change, AliveCleared, after, changed}
@@ -13,8 +13,9 @@ use Rattle.world_model.specs.Events as events
 use Rattle.world_model.specs.Events.{Deed, Refusal, Delivered, Ended, RanAway, Fate, Arrives, IsIgnored, IsDropped, Kills, Signal}
 use Rattle.world_model.specs.Lines.{line}
 use Rattle.world_model.specs.Mailboxes.{picked, reads_to_pick}
-use Rattle.world_model.specs.Names.{Pid}
+use Rattle.world_model.specs.Names.{Pid, same_pid}
 use Rattle.world_model.specs.Requests.{Program, Request, Calls, Ends, RunsAway}
+use Rattle.world_model.specs.ProcessLines.{info_line}
 use Rattle.world_model.specs.Steps.{asked, changes_of_fate, deed_asked, deed_delivered, deed_of_call, ended_or, ends_itself, judged, must_wait, reads_if_killed, reads_of_signal, received, runaway}
 use Rattle.world_model.specs.Signals.{fate_of, first_of, goes_with, reads_of_fate, waiting_in}
 use Rattle.world_footprints.specs.Deeds.{deed_in}
@@ -28,6 +29,7 @@ use Rattle.world_footprints.specs.declared.deed.Deed as stored
 use Rattle.world_planned.specs.declared.planned.Planned.{Planned}
 use Rattle.world_planned.specs.declared.reply.Reply.{Reply}
 use Rattle.world_planned.specs.declared.reply.Reply.TheVariants.{Served, Refused, Ends}
+use Rattle.world_model.specs.declared.process.ProcessItem.{ProcessItem}
 use Rattle.world_planned.proofs.Adding.{adds_as, adds_then}
 
 -- ---- the changes of an event: first those of its deed, and then the others
@@ -58,10 +60,17 @@ same_in x y e = ap (λ o. unwrap_or o x) e
 -- ---- calls
 
 -- what waits changes nothing
+told_changes : (b : Bool) (v : Contents) (p q : Pid) (item : ProcessItem) → (info_line b v p q item).changes ≡ []
+told_changes true v p q item = refl
+told_changes false v p q item = refl
+
 pub waits_changes : (v : Contents) (p : Pid) (call : Call) (reply : Reply) → must_wait v p call ≡ true → IsReply v p call reply → changes_of_reply v p call reply ≡ []
 waits_changes v p (IsAlive (Some q)) (Served answer) e is = refl
 waits_changes v p (IsAlive (Some q)) (Refused refusal) e is = refl
 waits_changes v p (IsAlive (Some q)) (Ends reason) e is = absurd (true≢false (ap is_some (sym is)))
+waits_changes v p (ProcessInfo (Some q) (Some item)) (Served answer) e is = told_changes (same_pid p q) v p q item
+waits_changes v p (ProcessInfo (Some q) (Some item)) (Refused refusal) e is = refl
+waits_changes v p (ProcessInfo (Some q) (Some item)) (Ends reason) e is = absurd (true≢false (ap is_some (sym is)))
 waits_changes v p call reply e is = absurd (true≢false (sym e))
 
 deed_by : (kind : CallKind) (arguments : List Meaning) (waits : Bool) (end : Option Meaning) (refusal : Option Refusal) (answer : Meaning) → Option Deed

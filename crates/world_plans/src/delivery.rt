@@ -80,12 +80,14 @@ fn unpair(
     Ok(())
 }
 
-// The signal of a watch: the watch is read, and goes, and with it an alias that was made so.
+// The signal of a watch: the watch is read with the name by which it was made, and goes, and with it an alias that was
+// made so.
 fn unwatch(reference: &RefId, from: &Pid, planned: &mut Planned) -> Result<(), AllocError>
     ensures { OnOk result (PlansUnwatched (ref_of reference.now) from.now planned.old planned.new) }
 {
     planned.read_reference(ReferencePart::Watch, reference)?;
     planned.read_process(ProcessPart::Watchers, from)?;
+    planned.read_reference(ReferencePart::Guard, reference)?;
     planned.change(Change::WatchCleared(reference.copy()?, from.copy()?))?;
     planned.change(Change::GuardUnwatched(reference.copy()?))?;
     Ok(())

@@ -1,9 +1,11 @@
 // Links and watches (erlang manual, `link/1`, `unlink/1`, `monitor/2`, `monitor/3`, `demonitor/2`).
-ghost use Rattle.std.specs.Prelude.{◌≡◌, ◌∷◌, ◌++◌, [], false, true, IfOk, OnOk, Option, Some, None, option_copied, option_map};
+ghost use Rattle.std.specs.Prelude.{◌≡◌, ◌∷◌, ◌++◌, [], Bool, false, true, IfOk, OnOk, Option, Some, None, option_copied, option_map};
 ghost use Rattle.proc_calls.specs.Arguments.{flushes, is_process};
 ghost use Rattle.world_model.specs.Names.{ref_of, same_pid};
+ghost use Rattle.proc_links.specs.Guards.{guard_of};
 ghost use Rattle.proc_links.specs.Links.{way_of};
 ghost use Rattle.world_planned.specs.inside.Planned.{Adds};
+ghost use Rattle.world_planned.specs.inside.NamedWatches.{PlansHolder, PlansKept, PlansNobody};
 ghost use Rattle.world_planned.specs.inside.PlannedCalls.{Plans};
 ghost use Rattle.term_core.specs.Term.{meaning_of};
 ghost use Rattle.world_model.specs.Calls as calls;
@@ -11,7 +13,7 @@ ghost use Rattle.world_model.specs.Cells as cells;
 ghost use Rattle.world_model.specs.Changes as changes;
 ghost use Rattle.world_model.specs.Changes.{is_of_watch};
 ghost use Rattle.world_model.specs.Mailboxes.{mailbox_in, selected_of};
-ghost use Rattle.world_model.specs.ProcessLines.{alias_begins, alias_beside, demonitor_reads, gone_told, link_changes, link_way, noproc, watch_begins, watch_ends};
+ghost use Rattle.world_model.specs.ProcessLines.{alias_begins, alias_beside, demonitor_reads, gone_told, link_changes, link_way, named_guard, noproc, watch_begins, watch_ends};
 ghost use Rattle.world_model.specs.declared.alias.AliasEnd.{AliasEnd};
 ghost use Rattle.world_records.specs.Records.{OfWorld};
 ghost use Rattle.world_records.specs.declared.records.Records as declared;
@@ -19,16 +21,16 @@ ghost use Rattle.world_planned.specs.inside.Messages.{PlansFlushed, PlansPicked}
 
 use crate::guarding::set_alias;
 use proc_calls::{Flushing, MonitorType};
-use proc_links::Linking;
+use proc_links::{Guard, Linking};
 use proc_signals::Signal;
 use std::alloc::{AllocError, Global};
-use term_core::{Pid, RefId, Term};
+use term_core::{Atom, Pid, RefId, Term};
 use world_model::alias::AliasEnd;
 use world_planned::planned::Planned;
-use world_planned::readings::{down, exits, life, lives, watched};
+use world_planned::readings::{down, exits, holder, life, lives, watched};
 use world_planned::reply::{Refusal, Reply, done};
 use world_planned::spawning::next_reference;
-use world_records::{Change, ProcessPart, Records, ReferencePart};
+use world_records::{Change, NamePart, ProcessPart, Records, ReferencePart};
 
 // The reason that is reported for a process that is gone.
 fn no_process(alloc: Global) -> Result<Term, AllocError>
@@ -266,6 +268,112 @@ pub(crate) fn monitor(
     match whom {
         Some(whom) => monitor_process(records, alloc, caller, kind, &whom, alias, planned),
         None => Ok(Reply::Refused(Refusal::BadArgument)),
+    }
+}
+
+// What is kept of a watch by name, with the alias that begins with it.
+fn named_guard(caller: &Pid, name: Atom, alias: Option<AliasEnd>) -> Result<Guard, AllocError>
+    ensures { IfOk result (λ guard. guard_of guard ≡ named_guard caller.now name alias) }
+{
+    match alias {
+        Some(end) => Ok(Guard::NamedAlias(name, caller.copy()?, end)),
+        None => Ok(Guard::NamedWatch(name)),
+    }
+}
+
+// A watch by name begins.
+fn begin_named(
+    alloc: Global,
+    caller: &Pid,
+    whom: &Pid,
+    reference: &RefId,
+    guard: Guard,
+    lives: bool,
+    planned: &mut Planned,
+) -> Result<(), AllocError>
+    ensures { OnOk result (PlansKept caller.now whom.now (ref_of reference.now) (guard_of guard) lives planned.old planned.new) }
+{
+    let watch = Change::WatchSet(reference.copy()?, whom.copy()?);
+    planned.change(watch)?;
+    planned.change(Change::GuardSet(reference.copy()?, guard))?;
+    tell_gone(alloc, caller, whom, reference, lives, planned)?;
+    Ok(())
+}
+
+// The holder of a name is watched.
+fn watch_holder(
+    records: &Records<'_>,
+    alloc: Global,
+    caller: &Pid,
+    name: Atom,
+    whom: &Pid,
+    alias: Option<AliasEnd>,
+    planned: &mut Planned,
+) -> Result<RefId, AllocError>
+    ensures { IfOk result (λ reference. OfWorld records.now (λ m v. PlansHolder v caller.now name whom.now alias (ref_of reference) planned.old planned.new)) }
+{
+    planned.read_process(ProcessPart::Alive, whom)?;
+    let reference = next_reference(records, alloc, caller)?;
+    let lives = lives(records, whom);
+    let guard = named_guard(caller, name, alias_beside(caller, whom, alias))?;
+    begin_named(alloc, caller, whom, &reference, guard, lives, planned)?;
+    Ok(reference)
+}
+
+// A name that nobody has is watched: its message comes at once, from the caller.
+fn watch_nobody(
+    records: &Records<'_>,
+    alloc: Global,
+    caller: &Pid,
+    name: Atom,
+    alias: Option<AliasEnd>,
+    planned: &mut Planned,
+) -> Result<RefId, AllocError>
+    ensures { IfOk result (λ reference. OfWorld records.now (λ m v. PlansNobody v caller.now name alias (ref_of reference) planned.old planned.new)) }
+{
+    let reference = next_reference(records, alloc, caller)?;
+    let guard = named_guard(caller, name, alias)?;
+    begin_named(alloc, caller, caller, &reference, guard, false, planned)?;
+    Ok(reference)
+}
+
+// A name is watched.
+fn watch_name(
+    records: &Records<'_>,
+    alloc: Global,
+    caller: &Pid,
+    name: Atom,
+    alias: Option<AliasEnd>,
+    planned: &mut Planned,
+) -> Result<Reply, AllocError>
+    ensures { IfOk result (λ reply. Plans caller.now (calls.MonitorName true name (Some alias)) records.now reply planned.old planned.new) }
+{
+    planned.read_name(NamePart::Holder, &name)?;
+    let Some(whom) = holder(records, &name) else {
+        let reference = watch_nobody(records, alloc, caller, name, alias, planned)?;
+        return Ok(Reply::Served(Term::Ref(reference)));
+    };
+    let begun = watch_holder(records, alloc, caller, name, whom, alias, planned)?;
+    Ok(Reply::Served(Term::Ref(begun)))
+}
+
+/// `monitor/2` and `monitor/3` of a name. `AllocError` if there is no memory.
+pub(crate) fn monitor_name(
+    records: &Records<'_>,
+    alloc: Global,
+    caller: &Pid,
+    kind: MonitorType,
+    name: Atom,
+    alias: Option<Option<AliasEnd>>,
+    planned: &mut Planned,
+) -> Result<Reply, AllocError>
+    ensures { IfOk result (λ reply. Plans caller.now (calls.MonitorName (is_process kind) name alias) records.now reply planned.old planned.new) }
+{
+    match (kind, alias) {
+        (MonitorType::Process, Some(alias)) => {
+            watch_name(records, alloc, caller, name, alias, planned)
+        }
+        _ => Ok(Reply::Refused(Refusal::BadArgument)),
     }
 }
 

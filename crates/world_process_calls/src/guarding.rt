@@ -6,6 +6,7 @@ ghost use Rattle.proc_links.specs.Guards.{guard_of};
 ghost use Rattle.term_core.specs.Meaning.{Meaning};
 ghost use Rattle.term_core.specs.Term.{meaning_of};
 ghost use Rattle.world_model.specs.Calls as calls;
+ghost use Rattle.world_model.specs.Calls.{StartTimer};
 ghost use Rattle.world_model.specs.Cells as cells;
 ghost use Rattle.world_model.specs.Changes as changes;
 ghost use Rattle.world_model.specs.Events as events;
@@ -13,7 +14,7 @@ ghost use Rattle.world_model.specs.Guards as guards;
 ghost use Rattle.world_model.specs.Guards.{timer_in};
 ghost use Rattle.world_model.specs.Names as names;
 ghost use Rattle.world_model.specs.Names.{ref_of};
-ghost use Rattle.world_model.specs.ProcessLines.{time_left, timer_ends, timer_message, timer_reads, told_left};
+ghost use Rattle.world_model.specs.ProcessLines.{alias_goes, time_left, timer_ends, timer_message, timer_reads, told_left};
 ghost use Rattle.world_model.specs.Signals.{put_if};
 ghost use Rattle.world_planned.specs.inside.Planned.{Adds};
 ghost use Rattle.world_planned.specs.inside.PlannedCalls.{Plans};
@@ -24,10 +25,10 @@ use proc_calls::Naming;
 use proc_links::Guard;
 use proc_signals::Signal;
 use std::alloc::{AllocError, Global};
-use term_core::{Pid, RefId, Term, Terms};
+use term_core::{Atom, Pid, RefId, Term, Terms};
 use world_model::alias::AliasEnd;
 use world_planned::planned::Planned;
-use world_planned::readings::{guard, is_alias, lives};
+use world_planned::readings::{guard, is_alias, lives, watch_name};
 use world_planned::reply::{Refusal, Reply, truth};
 use world_planned::spawning::{next_process, next_reference};
 use world_records::{Change, ProcessPart, Records, ReferencePart};
@@ -76,12 +77,34 @@ pub(crate) fn make_alias(
     }
 }
 
-// A guard ends where it stands.
-fn clear_if(stands: bool, reference: &RefId, planned: &mut Planned) -> Result<(), AllocError>
-    ensures { OnOk result (Adds [] (if stands then changes.GuardCleared (ref_of reference.now) ∷ [] else []) planned.old planned.new) }
+// An alias ends alone: the name of its watch stays.
+fn end_alone(
+    reference: &RefId,
+    name: Option<&Atom>,
+    planned: &mut Planned,
+) -> Result<(), AllocError>
+    ensures { OnOk result (Adds [] (alias_goes (ref_of reference.now) (option_copied name.entry)) planned.old planned.new) }
+{
+    match name {
+        Some(name) => {
+            let watch = Guard::NamedWatch(name.copy()?);
+            planned.change(Change::GuardSet(reference.copy()?, watch))
+        }
+        None => planned.change(Change::GuardCleared(reference.copy()?)),
+    }
+}
+
+// An alias ends where it stands.
+fn end_if(
+    stands: bool,
+    reference: &RefId,
+    name: Option<&Atom>,
+    planned: &mut Planned,
+) -> Result<(), AllocError>
+    ensures { OnOk result (Adds [] (if stands then alias_goes (ref_of reference.now) (option_copied name.entry) else []) planned.old planned.new) }
 {
     if stands {
-        planned.change(Change::GuardCleared(reference.copy()?))?;
+        end_alone(reference, name, planned)?;
     }
     Ok(())
 }
@@ -97,7 +120,7 @@ fn end_alias(
 {
     planned.read_reference(ReferencePart::Guard, reference)?;
     let stands = is_alias(records, reference, caller);
-    clear_if(stands, reference, planned)?;
+    end_if(stands, reference, watch_name(records, reference), planned)?;
     Ok(Reply::Served(truth(stands)))
 }
 
@@ -173,7 +196,7 @@ fn begin_timer(
     message: Term,
     planned: &mut Planned,
 ) -> Result<Reply, AllocError>
-    ensures { IfOk result (λ reply. (time : ℤ) → guard_of timer ≡ guards.Timer to.now time → Plans caller.now (calls.StartTimer (is_named naming) (Some time) (Some to.now) (meaning_of message)) records.now reply planned.old planned.new) }
+    ensures { IfOk result (λ r. (t : ℤ) → guard_of timer ≡ guards.Timer to.now t → Plans caller.now (StartTimer (is_named naming) (Some t) (Some to.now) (meaning_of message)) records.now r planned.old planned.new) }
 {
     planned.read_process(ProcessPart::Alive, to)?;
     let reference = next_reference(records, alloc, caller)?;
@@ -187,7 +210,7 @@ fn begin_timer(
 
 // A process is named in a call that is refused.
 fn refuse_timer(to: &Pid, planned: &mut Planned) -> Result<Reply, AllocError>
-    ensures { IfOk result (λ reply. (records : declared.Records) (caller : names.Pid) (is_named : Bool) (message : Meaning) → Plans caller (calls.StartTimer is_named None (Some to.now) message) records reply planned.old planned.new) }
+    ensures { IfOk result (λ r. (records : declared.Records) (caller : names.Pid) (is_named : Bool) (x : Meaning) → Plans caller (StartTimer is_named None (Some to.now) x) records r planned.old planned.new) }
 {
     planned.read_process(ProcessPart::Alive, to)?;
     Ok(Reply::Refused(Refusal::BadArgument))
@@ -204,7 +227,7 @@ fn start_for(
     message: Term,
     planned: &mut Planned,
 ) -> Result<Reply, AllocError>
-    ensures { IfOk result (λ reply. Plans caller.now (calls.StartTimer (is_named naming) time (Some to.now) (meaning_of message)) records.now reply planned.old planned.new) }
+    ensures { IfOk result (λ reply. Plans caller.now (StartTimer (is_named naming) time (Some to.now) (meaning_of message)) records.now reply planned.old planned.new) }
 {
     let Some(time) = time else {
         return refuse_timer(to, planned);
@@ -224,7 +247,7 @@ pub(crate) fn start_timer(
     message: Term,
     planned: &mut Planned,
 ) -> Result<Reply, AllocError>
-    ensures { IfOk result (λ reply. Plans caller.now (calls.StartTimer (is_named naming) time to (meaning_of message)) records.now reply planned.old planned.new) }
+    ensures { IfOk result (λ reply. Plans caller.now (StartTimer (is_named naming) time to (meaning_of message)) records.now reply planned.old planned.new) }
 {
     match to {
         Some(to) => start_for(records, alloc, caller, naming, time, &to, message, planned),
@@ -243,8 +266,7 @@ fn read_timer_cells(
     planned.read_reference(ReferencePart::Guard, reference)?;
     match guard {
         Some(Guard::Timer(to, _)) => planned.read_process(ProcessPart::Alive, to),
-        Some(Guard::Alias(_, _)) => Ok(()),
-        None => Ok(()),
+        _ => Ok(()),
     }
 }
 
@@ -260,8 +282,7 @@ fn time_left(records: &Records<'_>, guard: Option<&Guard>) -> Option<i64>
                 None
             }
         }
-        Some(Guard::Alias(_, _)) => None,
-        None => None,
+        _ => None,
     }
 }
 
@@ -285,8 +306,7 @@ fn end_timer(
 {
     match guard {
         Some(Guard::Timer(_, _)) => planned.change(Change::GuardCleared(reference.copy()?)),
-        Some(Guard::Alias(_, _)) => Ok(()),
-        None => Ok(()),
+        _ => Ok(()),
     }
 }
 

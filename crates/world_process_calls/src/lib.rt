@@ -6,5 +6,6 @@ mod guarding;
 mod naming;
 pub mod processes;
 mod sending;
+mod telling;
 
 pub use processes::plan_process_call;

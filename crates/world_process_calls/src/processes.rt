@@ -3,10 +3,11 @@ ghost use Rattle.std.specs.Prelude.{IfOk};
 ghost use Rattle.proc_calls.specs.Calls.{call_in};
 ghost use Rattle.world_planned.specs.inside.PlannedCalls.{Plans};
 
-use crate::binding::{demonitor, link, monitor, unlink};
+use crate::binding::{demonitor, link, monitor, monitor_name, unlink};
 use crate::guarding::{cancel_timer, make_alias, read_timer, start_timer, unalias};
 use crate::naming::{is_alive, register, set_flag, unregister, whereis};
 use crate::sending::{send, send_exit};
+use crate::telling::{process_info, registered};
 use proc_calls::ProcessCall;
 use std::alloc::{AllocError, Global};
 use term_core::Pid;
@@ -34,6 +35,9 @@ pub fn plan_process_call(
         ProcessCall::Monitor(kind, whom, alias) => {
             monitor(records, alloc, caller, kind, whom, alias, planned)
         }
+        ProcessCall::MonitorName(kind, name, alias) => {
+            monitor_name(records, alloc, caller, kind, name, alias, planned)
+        }
         ProcessCall::Demonitor(reference, flushing) => {
             demonitor(records, caller, reference, flushing, planned)
         }
@@ -41,7 +45,11 @@ pub fn plan_process_call(
         ProcessCall::Register(name, whom) => register(records, name, whom, planned),
         ProcessCall::Unregister(name) => unregister(records, name, planned),
         ProcessCall::WhereIs(name) => whereis(records, alloc, name, planned),
+        ProcessCall::Registered => registered(records, alloc, planned),
         ProcessCall::IsAlive(whom) => is_alive(records, caller, whom, planned),
+        ProcessCall::ProcessInfo(whom, item) => {
+            process_info(records, alloc, caller, whom, item, planned)
+        }
         ProcessCall::MakeRef => make_ref(records, alloc, caller, planned),
         ProcessCall::MakeAlias(end) => make_alias(records, alloc, caller, end, planned),
         ProcessCall::Unalias(reference) => unalias(records, caller, reference, planned),

@@ -111,6 +111,25 @@ fn send_to_name(
     Ok(Reply::Served(answer))
 }
 
+// `send/2` to the holder of a name at the own node, if it has one.
+fn send_to_node(
+    records: &Records<'_>,
+    caller: &Pid,
+    name: Atom,
+    message: Term,
+    planned: &mut Planned,
+) -> Result<Reply, AllocError>
+    ensures { IfOk result (λ reply. Plans caller.now (calls.Send (calls.ToNode name) (meaning_of message)) records.now reply planned.old planned.new) }
+{
+    planned.read_name(NamePart::Holder, &name)?;
+    let Some(receiver) = holder(records, &name) else {
+        return Ok(Reply::Served(message));
+    };
+    let answer = message.copy()?;
+    send_message(records, caller, receiver, message, planned)?;
+    Ok(Reply::Served(answer))
+}
+
 // `send/2` to the process that a reference is an alias of.
 fn send_to_reference(
     records: &Records<'_>,
@@ -147,6 +166,8 @@ pub(crate) fn send(
         Destination::ToReference(reference) => {
             send_to_reference(records, caller, &reference, message, planned)
         }
+        Destination::ToNode(name) => send_to_node(records, caller, name, message, planned),
+        Destination::ToAnotherNode => Ok(Reply::Served(message)),
         Destination::ToNobody => Ok(Reply::Refused(Refusal::BadArgument)),
     }
 }

@@ -2,7 +2,7 @@
 use Rattle.std.proofs.Common.{◌≡◌, ◌∙◌, ◌++◌, [], None, sym, ap, subst, arith}
 use Rattle.std.specs.FinMap.{get-empty}
 use Rattle.std.specs.Prelude.{option_map}
-use Rattle.term_core.specs.Order.{order_of_terms}
+use Rattle.term_core.specs.Order.{order_of_lists, order_of_terms}
 use Rattle.core_tree.specs.Syntax.{ModuleTree}
 use Rattle.world_model.specs.Cells as cells
 use Rattle.world_model.specs.Cells.{Contents}
@@ -40,6 +40,7 @@ begins m r begun no_mail no_signals no_links no_watchers no_watches no_guards no
   watches_are = no_watches;
   guards_are = no_guards;
   holders_are = no_holders;
+  names_are = λ n. no_holders n ∙ sym (get-empty order_of_lists n);
   borne_are = no_names;
   tables_are = record {
     are = record {
@@ -74,6 +75,7 @@ alike old new ps boxes channels links watches guarded holders borne ts m v told 
   watches_are = λ ref. watches.watches ref ∙ told.watches_are ref;
   guards_are = λ ref. guarded ref ∙ told.guards_are ref;
   holders_are = λ n. holders n ∙ told.holders_are n;
+  names_are = λ n. holders n ∙ told.names_are n;
   borne_are = λ p. borne p ∙ told.borne_are p;
   tables_are = record {
     are = record {

@@ -15,7 +15,7 @@ use Rattle.world_model.proofs.SortLaws.{AllAmong, untouched_by}
 use Rattle.world_model.proofs.Sorts.{is_among, sort_of}
 use Rattle.proc_links.specs.Guards.{AreGuards}
 use Rattle.proc_links.specs.Links.{AreLinks}
-use Rattle.proc_links.specs.Names.{AreHolders, AreBorne}
+use Rattle.proc_links.specs.Names.{AreHolders, AreListed, AreBorne}
 use Rattle.proc_links.specs.Watchers.{AreWatchers, AreWatches}
 use Rattle.proc_links.specs.declared.guards.Guards.{Guards}
 use Rattle.proc_links.specs.declared.links.Links.{Links}
@@ -132,6 +132,9 @@ guards_same guards v w same told ref = told ref ∙ sym (same (cells.Guard ref) 
 
 pub holders_same : (names : Names) (v w : Contents) → Same of_names v w → AreHolders names v → AreHolders names w
 holders_same names v w same told name = told name ∙ sym (same (cells.Holder name) refl)
+
+pub listed_same : (names : Names) (v w : Contents) → Same of_names v w → AreListed names v → AreListed names w
+listed_same names v w same told name = told name ∙ ap (λ holders. get holders name) (sym (same cells.Holders refl))
 
 pub borne_same : (names : Names) (v w : Contents) → Same of_names v w → AreBorne names v → AreBorne names w
 borne_same names v w same told p = told p ∙ sym (same (cells.NameOf p) refl)

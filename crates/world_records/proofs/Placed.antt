@@ -77,7 +77,7 @@ moves m (at.Inbox p) old new v same told = record {
 moves m (at.Channel s r) old new v same told = record { waiting = same ∙ told.waiting; counted = told.counted }
 moves m at.Links old new v same told = λ p. same p ∙ told p
 moves m at.Watches old new v same told = (λ p. same.0.watchers p ∙ told.0 p, λ ref. same.0.watches ref ∙ told.1 ref, λ ref. same.1 ref ∙ told.2 ref)
-moves m at.Names old new v same told = (λ n. same.holders n ∙ told.0 n, λ p. same.names p ∙ told.1 p)
+moves m at.Names old new v same told = (λ n. same.holders n ∙ told.0 n, λ n. same.holders n ∙ told.1 n, λ p. same.names p ∙ told.2 p)
 moves m at.Tables old new v same told = tables_move old.tables new.tables v same told
 
 -- ---- copies

@@ -4,7 +4,7 @@ use Rattle.term_core.specs.Term.{meaning_of}
 use Rattle.world_model.specs.Cells as cells
 use Rattle.world_model.specs.Names.{Name, Pid, Ref, ref_of}
 use Rattle.world_records.specs.declared.cell.Cell as stored
-use Rattle.world_records.specs.declared.cell.Cell.TheVariants.{OfProcess, OfChannel, OfName, OfReference, Row, Rows}
+use Rattle.world_records.specs.declared.cell.Cell.TheVariants.{OfProcess, OfChannel, OfName, OfReference, Row, Rows, Holders}
 use Rattle.world_records.specs.declared.cell.ProcessPart.{ProcessPart}
 use Rattle.world_records.specs.declared.cell.ProcessPart.TheVariants.{Machine, Alive, Trap, Taken, Mailed, Links, Watchers, NameOf, Owned}
 use Rattle.world_records.specs.declared.cell.ChannelPart.{ChannelPart}
@@ -46,6 +46,7 @@ cell_in (OfName part name) = name_cell part name
 cell_in (OfReference part id) = reference_cell part (ref_of id)
 cell_in (Row id key) = cells.Row (ref_of id) (meaning_of key)
 cell_in (Rows id) = cells.Rows (ref_of id)
+cell_in Holders = cells.Holders
 
 abbrev pub cells_in : List stored.Cell → List cells.Cell
 cells_in cs = map cell_in cs

@@ -4,7 +4,7 @@ use Rattle.core_tree.specs.Syntax.{ModuleTree}
 use Rattle.ets_rules.specs.Tables.{Hold}
 use Rattle.proc_links.specs.Guards.{AreGuards}
 use Rattle.proc_links.specs.Links.{AreLinks}
-use Rattle.proc_links.specs.Names.{AreHolders, AreBorne}
+use Rattle.proc_links.specs.Names.{AreHolders, AreListed, AreBorne}
 use Rattle.proc_links.specs.Watchers.{AreWatchers, AreWatches}
 use Rattle.proc_machines.specs.Courses.{StandsAs}
 use Rattle.proc_machines.specs.Processes.{lives_in, module_of, standing_in, traps_in, turns_in}
@@ -43,6 +43,7 @@ place_of (cells.Watchers p) = Watches
 place_of (cells.Watch ref) = Watches
 place_of (cells.Guard ref) = Watches
 place_of (cells.Holder name) = Names
+place_of cells.Holders = Names
 place_of (cells.NameOf p) = Names
 place_of (cells.TableName name) = Tables
 place_of (cells.Table t) = Tables
@@ -72,7 +73,7 @@ AgreesAt m (Inbox p) records v = IsInbox records p v
 AgreesAt m (Channel s r) records v = AreWaiting (between records.channels s r) (v (cells.Front s r)) (v (cells.Tail s r))
 AgreesAt m Links records v = AreLinks records.links v
 AgreesAt m Watches records v = AreWatchers records.watchers v × AreWatches records.watchers v × AreGuards records.guards v
-AgreesAt m Names records v = AreHolders records.names v × AreBorne records.names v
+AgreesAt m Names records v = AreHolders records.names v × AreListed records.names v × AreBorne records.names v
 AgreesAt m Tables records v = Hold records.tables v
 
 -- records are of one module

@@ -10,7 +10,7 @@ use Rattle.proc_mailboxes.specs.Mailboxes.{AreMailboxes, Mailboxes}
 use Rattle.proc_signals.specs.Channels.{AreChannels, Senders}
 use Rattle.proc_links.specs.Guards.{AreGuards}
 use Rattle.proc_links.specs.Links.{AreLinks}
-use Rattle.proc_links.specs.Names.{AreHolders, AreBorne}
+use Rattle.proc_links.specs.Names.{AreHolders, AreListed, AreBorne}
 use Rattle.proc_links.specs.Watchers.{AreWatchers, AreWatches}
 use Rattle.proc_machines.specs.Processes as processes
 use Rattle.ets_rules.specs.Tables.{Hold}
@@ -57,6 +57,7 @@ pub record Agrees (m : ModuleTree) (records : Records) (v : Contents) : Type 0 w
   pub watches_are : AreWatches records.watchers v
   pub guards_are : AreGuards records.guards v
   pub holders_are : AreHolders records.names v
+  pub names_are : AreListed records.names v
   pub borne_are : AreBorne records.names v
   pub tables_are : Hold records.tables v
 

@@ -69,4 +69,6 @@ pub enum Cell {
     Row(RefId, Term),
     /// All rows of the table of this reference.
     Rows(RefId),
+    /// Who holds any name.
+    Holders,
 }

@@ -1,7 +1,7 @@
 -- Masks of cells: each cell has a place among 64, and cells that meet have one place.
 use Rattle.std.specs.Int.{bit_at}
 use Rattle.std.specs.Prelude.{◌≡◌, ◌+◌, ◌*◌, ◌%◌, ◌-◌, ℕ, List, Option, None, Some, length, slice_get}
-use Rattle.world_model.specs.Cells.{Cell, Machine, Alive, Trap, Taken, Mailed, Links, Watchers, NameOf, Owned, Front, Tail, Holder, TableName, Watch, Guard, Table, Row, Rows}
+use Rattle.world_model.specs.Cells.{Cell, Machine, Alive, Trap, Taken, Mailed, Links, Watchers, NameOf, Owned, Front, Tail, Holder, Holders, TableName, Watch, Guard, Table, Row, Rows}
 use Rattle.world_model.specs.Names.{IsAmong, Pid, Ref}
 
 -- a number, or 0 without one
@@ -23,7 +23,7 @@ class_of_channel s r = (class_of_pid s + 2 * class_of_pid r) % 4
 abbrev pub place_of : ℕ → ℕ → ℕ
 place_of kind class = kind + 16 * class
 
--- the place of a cell; a row and all rows of its table have one, and so have the watch and the guard of a reference
+-- the place of a cell; a row and all rows of its table have one, and so have the holder of a name and all holders, and the watch and the guard of a reference
 abbrev pub place_in_mask : Cell → ℕ
 place_in_mask (Machine p) = place_of 0 (class_of_pid p)
 place_in_mask (Alive p) = place_of 1 (class_of_pid p)
@@ -37,6 +37,7 @@ place_in_mask (Owned p) = place_of 8 (class_of_pid p)
 place_in_mask (Front s r) = place_of 9 (class_of_channel s r)
 place_in_mask (Tail s r) = place_of 10 (class_of_channel s r)
 place_in_mask (Holder name) = 11
+place_in_mask Holders = 11
 place_in_mask (TableName name) = 12
 place_in_mask (Watch ref) = place_of 13 (class_of_ref ref)
 place_in_mask (Guard ref) = place_of 13 (class_of_ref ref)

@@ -1,6 +1,6 @@
 // What calls of small modules answer of their rows, and what ends, deletes and names leave.
 ghost use Rattle.world_model.specs.LeftExamples.{NamedHasNoReference, DeletedIsNotFound, DeletedHasNoOwner, DeletedHasNoRows, OwnHeirIsNone, DeadHeirIsNone, NameGoesWithItsHolder};
-ghost use Rattle.world_model.specs.RowExamples.{BagHoldsEachOnce, BagGivesEachElement, BagHasNoCounter, DuplicateBagHoldsAll, SetKeepsTheLast, OrderedSetKeepsTheLast, LastKindCounts, MemberIsThere, OtherIsNotThere, TakenIsTold, TakenIsGone, DeletedIsGone, OthersStay, SameObjectsAreGone, ElementIsChanged, NoElementIsChanged, AllOrNothing, ShortHasNoPlace, ShortHasNoKey, SumHasItsRange, CounterCounts};
+ghost use Rattle.world_model.specs.RowExamples.{BagHoldsEachOnce, BagGivesEachElement, BagHasNoCounter, DuplicateBagHoldsAll, SetKeepsTheLast, OrderedSetKeepsTheLast, LastKindCounts, MemberIsThere, OtherIsNotThere, TakenIsTold, TakenIsGone, DeletedIsGone, OthersStay, SameObjectsAreGone, ElementIsChanged, NoElementIsChanged, AllOrNothing, ShortHasNoPlace, ShortHasNoKey, SumHasItsRange, CounterCounts, AdditionsGoOn, LimitIsReached, LimitIsPassed, LimitIsPassedDown, LimitKeepsTheRange, AllOrNoneIsAdded, DefaultIsCounted, DefaultIsPutIn, DefaultIsLeft, DefaultIsNoObject, DefaultHasNoKey, ElementsAreChanged, AllOrNoneIsChanged, ChangeOfTheKeyIsRefused};
 
 /// A table that is found by its name is not found by its reference.
 #[tactic(auto, unfolding(crate::specs::World::contents))]
@@ -74,9 +74,43 @@ pub fn objects_go()
     ensures same { SameObjectsAreGone }
 {}
 
-/// An element is changed where its key is there.
+/// An element is changed where its key is there; that of the key itself never is.
 #[tactic(auto, unfolding(crate::specs::World::contents))]
 pub fn elements_change()
     ensures there { ElementIsChanged }
     ensures none { NoElementIsChanged }
+    ensures missing { ChangeOfTheKeyIsRefused }
+{}
+
+/// Several elements change one after the other, or none.
+#[tactic(auto, unfolding(crate::specs::World::contents))]
+pub fn elements_change_together()
+    ensures all { ElementsAreChanged }
+    ensures none { AllOrNoneIsChanged }
+{}
+
+/// Several additions go on from one another, or nothing is added.
+#[tactic(auto, unfolding(crate::specs::World::contents))]
+pub fn additions_go_on()
+    ensures all { AdditionsGoOn }
+    ensures none { AllOrNoneIsAdded }
+{}
+
+/// A sum past its limit is set, so that it has its range.
+#[tactic(auto, unfolding(crate::specs::World::contents))]
+pub fn limits_are_kept()
+    ensures reached { LimitIsReached }
+    ensures passed { LimitIsPassed }
+    ensures down { LimitIsPassedDown }
+    ensures range { LimitKeepsTheRange }
+{}
+
+/// A default is put in under the key where that is missing, and counted.
+#[tactic(auto, unfolding(crate::specs::World::contents))]
+pub fn defaults_are_counted()
+    ensures counted { DefaultIsCounted }
+    ensures alone { DefaultIsPutIn }
+    ensures left { DefaultIsLeft }
+    ensures object { DefaultIsNoObject }
+    ensures key { DefaultHasNoKey }
 {}

@@ -1,9 +1,10 @@
 // Small modules, and what happens by their schedules.
 ghost use Rattle.world_model.specs.BondExamples.{RunawayIsTold, UnlinkedIsDropped, UnlinkedIsNotTold, FormerHolderFreesNoName, FormerOwnerDestroysNoTable, LateLinkIsTold, LateWatchIsTold, UnwatchedIsNotTold, UnwatchedIsDropped, FlushTakesTheMessage, MessageStays, SendsToItself, EndsByItsExit, TrapsItsExit, ReferenceIsMade, LaterHeirInherits};
 ghost use Rattle.world_model.specs.GuardExamples.{AnswerIsLetIn, LateAnswerIsDropped, ExplicitAliasStays, UnaliasedIsDropped, SecondReplyIsDropped, BothAreLetIn, ReplyEndsTheWatch, NoAliasTakesNothing, OwnAliasTakesIt, OwnAliasMayEndBefore, OwnWatchHasNoAlias, TimerComes, CancelledIsDropped, CancelTellsTheTime, LateCancelIsFalse, ReadTellsTheTime};
+ghost use Rattle.world_model.specs.NameExamples.{NameIsTold, NodeIsTold, FormerNameIsTold, AnotherNodeIsRefused, NobodyIsTold, UnwatchedNobodyIsDropped, OwnNameIsNotTold, NameOutlivesAlias, NobodyEndsAlias, NobodyLeavesAlias, NodeIsSent, AnotherNodeIsNotSent, NobodyIsSent, OwnNameIsAsked, NoNameIsAsked, UnknownItemIsRefused, CountWaits, MessageIsCounted, TakenIsNotCounted, OfTheDeadNothingIsTold, NamesAreListed, NameIsNotListed};
 ghost use Rattle.world_model.specs.ShownExamples.{RefusalIsShown, RefusalIsListed, RefusalIsNoError, RefusalIsErrorIfStrict, EndIsError, NormalEndShowsNothing, UnreadIsShown, UnreadIsNoError, UnreadIsErrorIfIdle, UnreadIsNoRefusal, TakenIsNotUnread, IdleHasNone, FirstWaitsToo};
 ghost use Rattle.world_model.specs.ReceiveExamples.{SecondIsHeard, WaitsForIts, TakesItsFirst, TakesTheOther, TakesTheOlder, ComesToTimeout, ComesToMessage};
-ghost use Rattle.world_model.specs.TableExamples.{WritesItsTable, HasNoNinth, StrangerIsRefused, StrangerFindsNone, StrangerEnds, OldOwnerIsRefused, HeirIsTold, HeirWrites, HeirTimesOut, NoHeirNoTable, PresentOwnerCounts, PrivateIsUnread, StrangerBeforeObject, OwnerOfShort, OwnersCall, InfoOfNone, ItemIsUnknown, GiftToItself};
+ghost use Rattle.world_model.specs.TableExamples.{WritesItsTable, HasNoNinth, StrangerIsRefused, StrangerFindsNone, StrangerEnds, OldOwnerIsRefused, HeirIsTold, HeirWrites, HeirTimesOut, NoHeirNoTable, PresentOwnerCounts, PrivateIsUnread, StrangerBeforeObject, OwnerOfShort, OwnersCall, InfoOfNone, AllItemsOfNone, ItemIsUnknown, GiftToItself};
 ghost use Rattle.world_model.specs.ProcessExamples.{UndefinedEnds, KillEnds, KillIsTold, EndIsTold, NameIsServed, LateLinkFails, LateLinkEnds, ItWaits, ItIsKilled, ThenItIsGone};
 
 /// A process makes a table, writes it, reads it and ends.
@@ -50,6 +51,7 @@ pub fn rules_come_in_order()
     ensures owner { OwnerOfShort }
     ensures owners { OwnersCall }
     ensures none { InfoOfNone }
+    ensures all { AllItemsOfNone }
     ensures item { ItemIsUnknown }
     ensures gift { GiftToItself }
 {}
@@ -205,4 +207,46 @@ pub fn timers_end()
     ensures time { CancelTellsTheTime }
     ensures late { LateCancelIsFalse }
     ensures read { ReadTellsTheTime }
+{}
+
+/// A watch by name is one of the process that has the name then, and its message has the name with the node. Where nobody has
+/// it the message comes at once, and of one's own name never. An alias that begins with it ends as others do.
+#[tactic(auto, unfolding(crate::specs::World::contents))]
+pub fn names_are_watched()
+    ensures name { NameIsTold }
+    ensures node { NodeIsTold }
+    ensures former { FormerNameIsTold }
+    ensures another { AnotherNodeIsRefused }
+    ensures nobody { NobodyIsTold }
+    ensures unwatched { UnwatchedNobodyIsDropped }
+    ensures own { OwnNameIsNotTold }
+    ensures outlives { NameOutlivesAlias }
+    ensures ends { NobodyEndsAlias }
+    ensures leaves { NobodyLeavesAlias }
+{}
+
+/// A message to a name at the own node is one to its holder, if it has one; one to another node is lost.
+#[tactic(auto, unfolding(crate::specs::World::contents))]
+pub fn nodes_are_sent_to()
+    ensures own { NodeIsSent }
+    ensures another { AnotherNodeIsNotSent }
+    ensures nobody { NobodyIsSent }
+{}
+
+/// A process is told its name and how many messages it has, or another process has once its own messages have come there.
+#[tactic(auto, unfolding(crate::specs::World::contents))]
+pub fn processes_are_told_of()
+    ensures name { OwnNameIsAsked }
+    ensures none { NoNameIsAsked }
+    ensures item { UnknownItemIsRefused }
+    ensures waits { CountWaits }
+    ensures counted { MessageIsCounted }
+    ensures taken { TakenIsNotCounted }
+    ensures gone { OfTheDeadNothingIsTold }
+{}
+
+/// The names that processes have are listed in their order.
+pub fn names_are_listed()
+    ensures all { NamesAreListed }
+    ensures gone { NameIsNotListed }
 {}

@@ -1,5 +1,5 @@
 // The laws of processes: what is so after an event, by what was so before it.
-ghost use Rattle.world_model.specs.Bonds.{LinkedIsTold, WatchedIsTold, GuardedIsTold, HolderIsTold};
+ghost use Rattle.world_model.specs.Bonds.{LinkedIsTold, WatchedIsTold, GuardedIsTold, HolderIsTold, HoldersAreAll};
 ghost use Rattle.world_model.specs.Mail.{MailboxIsTold, WaitingIsTold};
 ghost use Rattle.world_model.specs.Posted.{PutsAreTold};
 ghost use Rattle.world_model.specs.ProcessHistory.{AliveIsTold, TurnsAreTold, AnswersAreTold, TrapsAreTold};
@@ -27,6 +27,7 @@ pub fn bonds_are_told()
     ensures watched { WatchedIsTold }
     ensures guarded { GuardedIsTold }
     ensures holder { HolderIsTold }
+    ensures holders { HoldersAreAll }
 {}
 
 /// The messages of a process are those that came in, less those that it took or flushed; the signals on

@@ -1,10 +1,14 @@
--- What is planned of messages that are taken from a mailbox, and of what is sent.
-use Rattle.std.specs.Prelude.{Bool, Option}
+-- What is planned of messages that are taken from a mailbox, of what is sent, and of aliases that end by a reply.
+use Rattle.std.specs.Prelude.{◌∷◌, [], Bool, Option}
 use Rattle.term_core.specs.Meaning.{Meaning}
+use Rattle.world_model.specs.Cells as cells
 use Rattle.world_model.specs.Cells.{Contents}
+use Rattle.world_model.specs.Changes.{GuardCleared}
+use Rattle.world_model.specs.Guards.{ends_by_reply}
 use Rattle.world_model.specs.Mailboxes.{picked, reads_to_pick}
-use Rattle.world_model.specs.Names.{Pid, same_pid}
+use Rattle.world_model.specs.Names.{Pid, Ref, same_pid}
 use Rattle.world_model.specs.ProcessLines.{exited, flushed, read_of_target, reads_to_flush, sent}
+use Rattle.world_model.specs.Signals.{reply_ends, watch_goes, watch_if}
 use Rattle.world_planned.specs.inside.Planned.{Adds}
 use Rattle.world_planned.specs.declared.planned.Planned.{Planned}
 
@@ -23,3 +27,12 @@ PlansSent v s r message old new = Adds (read_of_target (same_pid s r) s r) (sent
 -- a process sends an exit signal to another, or to itself
 abbrev pub PlansExited : Contents → Pid → Pid → Meaning → Planned → Planned → Type 0
 PlansExited v s r reason old new = Adds (read_of_target (same_pid s r) s r) (exited (same_pid s r) v s r reason) old new
+
+-- an alias ends, and the watch of its reference with it
+abbrev pub PlansEnded : Contents → Ref → Planned → Planned → Type 0
+PlansEnded v ref old new = Adds (cells.Watch ref ∷ []) (GuardCleared ref ∷ watch_goes ref (v (cells.Watch ref))) old new
+
+-- the same where a message that comes through it to a process ends it
+abbrev pub PlansReplied : Contents → Pid → Ref → Planned → Planned → Type 0
+PlansReplied v p ref old new =
+    Adds (watch_if (ends_by_reply p (v (cells.Guard ref))) ref) (reply_ends (ends_by_reply p (v (cells.Guard ref))) ref (v (cells.Watch ref))) old new

@@ -32,9 +32,9 @@ PlansSignal s r signal records deed old new = (m : ModuleTree) (v : Contents) �
 abbrev pub PlansUnlinked : Contents → Pid → Pid → Planned → Planned → Type 0
 PlansUnlinked v s r old new = Adds (cells.Links r ∷ cells.Links s ∷ trap_if (list_any (same_pid s) (v (cells.Links r))) r) (pair_goes s r) old new
 
--- a watch goes with its signal, and with it an alias that was made so; the watch is read
+-- a watch goes with its signal, and with it an alias that was made so; the watch is read, and the name by which it was made
 abbrev pub PlansUnwatched : Ref → Pid → Planned → Planned → Type 0
-PlansUnwatched ref s old new = Adds (cells.Watch ref ∷ cells.Watchers s ∷ []) (WatchCleared ref ∷ WatcherRemoved s ref ∷ GuardUnwatched ref ∷ []) old new
+PlansUnwatched ref s old new = Adds (cells.Watch ref ∷ cells.Watchers s ∷ cells.Guard ref ∷ []) (WatchCleared ref ∷ WatcherRemoved s ref ∷ GuardUnwatched ref ∷ []) old new
 
 -- the guard of a reference is read, and ends with a message that is a reply
 abbrev pub PlansPassed : Contents → Pid → Ref → Planned → Planned → Type 0

@@ -5,4 +5,4 @@ use Rattle.ets_calls.proofs.items.named_item.Goals as goal
 pub returns-in_default : goal.returns-in_default
 returns-in_default c =
     let not = c.in_default in
-    absent c.args.name.now known_items (not.not-name, (not.not-type, (not.not-protection, (not.not-owner, (not.not-size, (not.not-keypos, (not.not-heir, (not.not-named_table, tt))))))))
+    absent c.args.name.now known_items (not.not-owner, (not.not-heir, (not.not-name, (not.not-size, (not.not-named_table, (not.not-type, (not.not-keypos, (not.not-protection, tt))))))))

@@ -58,3 +58,12 @@ returns-in-CancelTimer c = subst (λ x. IfOk c.cancel_timer.result (λ reply. Pl
 
 pub returns-in-ReadTimer : goal.returns-in-ReadTimer
 returns-in-ReadTimer c = subst (λ x. IfOk c.read_timer.result (λ reply. Plans c.args.caller.now (call_in x) c.args.records.now reply c.args.planned.now c.read_timer.new.planned)) (sym c.in-ReadTimer.is) (if_ok c.read_timer.result _ _ (λ reply plans. plans c.args.caller.now) c.read_timer.ensures)
+
+pub returns-in-MonitorName : goal.returns-in-MonitorName
+returns-in-MonitorName c = subst (λ x. IfOk c.monitor_name.result (λ reply. Plans c.args.caller.now (call_in x) c.args.records.now reply c.args.planned.now c.monitor_name.new.planned)) (sym c.in-MonitorName.is) c.monitor_name.ensures
+
+pub returns-in-Registered : goal.returns-in-Registered
+returns-in-Registered c = subst (λ x. IfOk c.registered.result (λ reply. Plans c.args.caller.now (call_in x) c.args.records.now reply c.args.planned.now c.registered.new.planned)) (sym c.in-Registered.is) (if_ok c.registered.result _ _ (λ reply plans. plans c.args.caller.now) c.registered.ensures)
+
+pub returns-in-ProcessInfo : goal.returns-in-ProcessInfo
+returns-in-ProcessInfo c = subst (λ x. IfOk c.process_info.result (λ reply. Plans c.args.caller.now (call_in x) c.args.records.now reply c.args.planned.now c.process_info.new.planned)) (sym c.in-ProcessInfo.is) c.process_info.ensures

@@ -14,3 +14,6 @@ returns-in-ToReference c = subst (λ d. IfOk c.send_to_reference.result (λ repl
 
 pub returns-in-ToName : goal.returns-in-ToName
 returns-in-ToName c = subst (λ d. IfOk c.send_to_name.result (λ reply. Plans c.args.caller.now (calls.Send (destination_in d) (meaning_of c.args.message)) c.args.records.now reply c.args.planned.now c.send_to_name.new.planned)) (sym c.in-ToName.is) c.send_to_name.ensures
+
+pub returns-in-ToNode : goal.returns-in-ToNode
+returns-in-ToNode c = subst (λ d. IfOk c.send_to_node.result (λ reply. Plans c.args.caller.now (calls.Send (destination_in d) (meaning_of c.args.message)) c.args.records.now reply c.args.planned.now c.send_to_node.new.planned)) (sym c.in-ToNode.is) c.send_to_node.ensures

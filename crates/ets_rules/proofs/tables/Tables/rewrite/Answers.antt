@@ -9,6 +9,3 @@ returns-in-Removes c = rewrites_any c.erase.result c.args.id.now c.args.key.now 
 
 pub returns-in-Clears : goal.returns-in-Clears
 returns-in-Clears c = rewrites_any c.delete_key.result c.args.id.now c.args.key.now c.args.change.now _ c.args.self.now c.delete_key.new.self c.in-Clears.is c.delete_key.ensures
-
-pub returns-in-Alters : goal.returns-in-Alters
-returns-in-Alters c = rewrites_as c.alter_copy.result c.args.id.now c.args.key.now c.args.change.now _ c.args.self.now c.alter_copy.new.self c.in-Alters.is c.alter_copy.ensures

@@ -11,5 +11,6 @@ returns c =
     record {
       same = λ e. both e;
       holders = λ e v are m. sym ((both e).holders m) ∙ are m;
+      listed = λ e v are m. sym ((both e).holders m) ∙ are m;
       names = λ e v are r. sym ((both e).names r) ∙ are r;
     }

@@ -6,4 +6,4 @@ use Rattle.world_records.proofs.records.Records.bare.Goals as goal
 pub returns : goal.returns
 returns c = λ m v told can.
     only_names m c.args.self.now c.bare.new.self (NameCleared c.args.pid.now ∷ []) v (refl, tt)
-    (c.in_ok-bare.ensures.holders v told.holders_are) (c.in_ok-bare.ensures.names v told.borne_are) told
+    (c.in_ok-bare.ensures.holders v told.holders_are) (c.in_ok-bare.ensures.listed v told.names_are) (c.in_ok-bare.ensures.names v told.borne_are) told

@@ -18,7 +18,7 @@ pub returns-in-Watches : goal.returns-in-Watches
 returns-in-Watches c = λ e. too_as c.args.place.now Watches c.args.self.now c.args.other.now c.in-Watches.is (c.is_same_watched.ensures e)
 
 pub returns-in-Names : goal.returns-in-Names
-returns-in-Names c = λ e. too_as c.args.place.now Names c.args.self.now c.args.other.now c.in-Names.is (λ m v w old new. (c.is_same-in-Names.ensures.holders e w new.0, c.is_same-in-Names.ensures.names e w new.1))
+returns-in-Names c = λ e. too_as c.args.place.now Names c.args.self.now c.args.other.now c.in-Names.is (λ m v w old new. (c.is_same-in-Names.ensures.holders e w new.0, c.is_same-in-Names.ensures.listed e w new.1, c.is_same-in-Names.ensures.names e w new.2))
 
 pub returns-in-Tables : goal.returns-in-Tables
 returns-in-Tables c = λ e. too_as c.args.place.now Tables c.args.self.now c.args.other.now c.in-Tables.is (λ m v w old new. c.is_same-in-Tables.ensures.agrees e w new)
