@@ -1,6 +1,6 @@
 %% A server that is known by its name is watched by it: it ends while it is watched, or was gone before.
 %% want: main ends {normal,{server,nonode@nohost}} and {noproc,{server,nonode@nohost}}
-%% depth: 14
+%% depth: 16
 %% error: P ends {'noproc',{'server','nonode@nohost'}}
 %% error: P ends {'normal',{'server','nonode@nohost'}}
 -module(named_and_gone).

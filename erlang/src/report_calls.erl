@@ -145,8 +145,9 @@ unwatched(_, _, _, spawn_monitor) -> none;
 unwatched(Last, Rest, _, _) -> {Last, Rest}.
 
 %% A cast, until it has arrived.
-cast([#event{number = First, who = Client, deed = {call, erlang, '!', [To, {tuple, [{atom, '$gen_cast'}, Request]} = Message], {ok, _}}},
-      #event{number = Last, who = {Client, Server}, deed = {brings, Message}} | Rest], Begun, {Roles, Places}) ->
+cast([#event{number = First, who = Client, deed = {call, erlang, Send, [To, {tuple, [{atom, '$gen_cast'}, Request]} = Message], {ok, _}}},
+      #event{number = Last, who = {Client, Server}, deed = {brings, Message}} | Rest], Begun, {Roles, Places})
+  when Send =:= '!'; Send =:= send ->
     Text = [behaviour(Server, Roles), ":cast(", report_term:text(To), ",", report_term:text(Request), ")"],
     {Last, Client, Text, maps:get(First, Places, none), Begun, Rest};
 cast(_, _, _) -> none.

@@ -5,6 +5,8 @@
 
 -include("../src/core.hrl").
 
+-define(PARTS, 8).
+
 %% The module with its pauses, loaded.
 load(File, Module) ->
     {ok, Module, Core} = compile:file(File, [to_core, binary]),
@@ -55,12 +57,13 @@ chance(N) -> erlang:phash2(make_ref(), N).
 
 %% What became of one run: {Ends, Waits}, where Ends is [{first | other, Reason}] of those that ended
 %% otherwise than normally, and Waits how many wait for ever, and whether the first one does. After Quiet milliseconds
-%% without an event all that live, where they all wait, are taken to wait for ever.
+%% without an event all that live, where they all wait, are taken to wait for ever. That time is waited for in parts, since a
+%% busy machine may stand still for the whole of it: then one part is over, and in the next one what was late goes on.
 run(Module, Entry, Quiet) ->
     First = spawn(fun() -> receive go -> Module:Entry() end end),
     1 = erlang:trace(First, true, [procs, set_on_spawn]),
     First ! go,
-    {Ends, Live} = gather(First, [First], [], Quiet),
+    {Ends, Live} = gather(First, [First], [], Quiet, ?PARTS),
     Refs = [begin exit(P, kill), monitor(process, P) end || P <- Live],
     [receive {'DOWN', R, process, _, _} -> ok end || R <- Refs],
     forget(),
@@ -69,17 +72,18 @@ run(Module, Entry, Quiet) ->
 role(First, First) -> first;
 role(_, _) -> other.
 
-gather(First, Born, Ends, Quiet) ->
+gather(First, Born, Ends, Quiet, Left) ->
     receive
-        {trace, _, spawn, Child, _} -> gather(First, [Child | Born], Ends, Quiet);
-        {trace, P, exit, Reason} -> gather(First, Born, [{P, Reason} | Ends], Quiet);
-        {trace, _, _, _} -> gather(First, Born, Ends, Quiet);
-        {trace, _, _, _, _} -> gather(First, Born, Ends, Quiet)
+        {trace, _, spawn, Child, _} -> gather(First, [Child | Born], Ends, Quiet, ?PARTS);
+        {trace, P, exit, Reason} -> gather(First, Born, [{P, Reason} | Ends], Quiet, ?PARTS);
+        {trace, _, _, _} -> gather(First, Born, Ends, Quiet, ?PARTS);
+        {trace, _, _, _, _} -> gather(First, Born, Ends, Quiet, ?PARTS)
     after wait(Born, Ends, Quiet) ->
         Live = live(Born, Ends),
         case lists:all(fun waits/1, Live) of
-            true -> {lists:reverse(Ends), Live};
-            false -> gather(First, Born, Ends, Quiet)
+            true when Left =:= 1; Live =:= [] -> {lists:reverse(Ends), Live};
+            true -> gather(First, Born, Ends, Quiet, Left - 1);
+            false -> gather(First, Born, Ends, Quiet, ?PARTS)
         end
     end.
 
@@ -94,6 +98,6 @@ waits(Pid) ->
 live(Born, Ends) -> lists:usort(Born) -- [P || {P, _} <- Ends].
 
 %% Where nobody lives any more, what is on the way still comes.
-wait(Born, Ends, Quiet) -> case live(Born, Ends) of [] -> 3; _ -> Quiet end.
+wait(Born, Ends, Quiet) -> case live(Born, Ends) of [] -> 3; _ -> Quiet div ?PARTS end.
 
 forget() -> receive {trace, _, _, _} -> forget(); {trace, _, _, _, _} -> forget() after 0 -> ok end.
